@@ -1,0 +1,4 @@
+pub mod Encoder
+pub use Rattle.bats_model.specs.Session
+pub use Rattle.bats_model.specs.Batch
+pub use Rattle.bats_model.specs.Coded

@@ -1,0 +1,148 @@
+ghost use Rattle.std.specs.Prelude.{◌≡◌, ◌≢◌, ℕ, ◌<◌, ◌≤◌, ◌↔◌, length, slice_index, IfOk, IfErr, IsErr, IsOk};
+ghost use Rattle.bats_model.specs.Batch.{batch_of, degree_of};
+ghost use Rattle.bats_model.specs.Symbol.{symbol_byte};
+ghost use Rattle.bats_model.specs.Coded.{coded_payload, unit_vector};
+
+use crate::row::add_scaled;
+use bats_model::{Batch, Bytes, Packet, Session};
+use std::alloc::{AllocError, Global};
+use std::marker::Model;
+
+/// A file whose length isn't the one that the session declares. Both count bytes.
+#[derive(Clone, Copy, Debug, PartialEq, Eq)]
+pub struct OtherLength {
+    pub found: u64,
+    pub declared: u64,
+}
+
+/// A session and its file, from which coded packets are made.
+#[derive(Drop)]
+pub struct Encoder {
+    alloc: Global,
+    session: Session,
+    file: Bytes,
+}
+
+impl Model for Encoder {
+    ghost use Rattle.std.specs.Prelude.{◌≡◌, length};
+    ghost use Rattle.bats_encoder.specs.Encoder.{EncoderData};
+
+    ghost Value = { EncoderData };
+
+    ghost view = { λ e. record { session = e.session; file = e.file } };
+
+    ghost invariant = { λ e. length e.file ≡ e.session.file_length };
+}
+
+impl Encoder {
+    /// The encoder of this file, of as many bytes as the session declares. A file of another length is dropped.
+    pub fn new(alloc: Global, session: Session, file: Bytes) -> Result<Encoder, OtherLength>
+        ensures ok { IfOk result (λ encoder. encoder ≡ record { session = session; file = file }) }
+        ensures accepted { IsOk result ↔ (length file ≡ session.file_length) }
+        ensures other_length { IfErr result (λ e. (e.found ≡ length file) × (e.declared ≡ session.file_length)) }
+    {
+        let found = file.len() as u64;
+        let declared = session.length();
+        if found != declared {
+            return Err(OtherLength { found, declared });
+        }
+        Ok(Encoder {
+            alloc,
+            session,
+            file,
+        })
+    }
+
+    /// Coded packet `j` of a batch, which has to be the session's batch of its number: its coefficient vector of M
+    /// bytes is 1 at place `j` and 0 elsewhere, and its payload has T bytes.
+    pub fn coded(&self, batch: &Batch, j: u32) -> Result<Packet, AllocError>
+        requires of_session { batch.now ≡ batch_of self.now.session batch.now.number }
+        requires column { j < self.now.session.m }
+        ensures batch { IfOk result (λ packet. packet.batch ≡ batch.now.number) }
+        ensures coefs { IfOk result (λ packet. packet.coefs ≡ unit_vector self.now.session.m j) }
+        ensures payload { IfOk result (λ packet.
+            packet.payload ≡ coded_payload self.now.session self.now.file batch.now j) }
+    {
+        let coefs = vector_of(self.alloc, self.session.m(), j)?;
+        let payload = payload_of(self.alloc, &self.session, self.file.as_slice(), batch, j)?;
+        Ok(Packet {
+            batch: batch.number(),
+            coefs: Bytes::from(coefs),
+            payload: Bytes::from(payload),
+        })
+    }
+}
+
+// The vector of m bytes that is 1 at place j and 0 elsewhere.
+fn vector_of(alloc: Global, m: u8, j: u32) -> Result<Vec<u8>, AllocError>
+    ensures { IfOk result (λ vector. vector.items ≡ unit_vector m j) }
+{
+    let mut vector = Vec::with_capacity(alloc, m as usize)?;
+    for i in 0..u32::from(m) {
+        vector.push(u8::from(i == j))?;
+    }
+    Ok(vector)
+}
+
+// The bytes of symbol s that the file has, at most t. The others are zeros.
+fn symbol_of<'a>(session: &Session, file: &'a [u8], s: u32) -> &'a [u8]
+    ensures length { length result.now ≤ session.now.t }
+    ensures bytes { (c : ℕ) → c < session.now.t → slice_index result.now c ≡ symbol_byte session.now file.now s c }
+{
+    let t = session.t() as usize;
+    let start = (s as usize * t).min(file.len());
+    let end = (start + t).min(file.len());
+    &file[start..end]
+}
+
+// Makes the payload of coded packet j in a row of zeros, with one row operation a contributor.
+fn fill_payload(payload: &mut [u8], session: &Session, file: &[u8], batch: &Batch, j: u32)
+    requires column { j < batch.now.columns }
+    requires zeros { (c : ℕ) → c < session.now.t → slice_index payload.old c ≡ 0 }
+    requires length { length payload.old ≡ session.now.t }
+    ensures { payload.new ≡ coded_payload session.now file.now batch.now j }
+{
+    for k in 0..batch.degree() {
+        let symbol = symbol_of(session, file, batch.contributor(k));
+        add_scaled(payload, batch.entry(k, j), symbol);
+    }
+}
+
+// The payload of coded packet j.
+fn payload_of(
+    alloc: Global,
+    session: &Session,
+    file: &[u8],
+    batch: &Batch,
+    j: u32,
+) -> Result<Vec<u8>, AllocError>
+    requires { j < batch.now.columns }
+    ensures { IfOk result (λ payload. payload.items ≡ coded_payload session.now file.now batch.now j) }
+{
+    let mut payload = vec![in alloc; 0; session.t() as usize]?;
+    fill_payload(&mut payload, session, file, batch, j);
+    Ok(payload)
+}
+
+#[cfg(test)]
+mod tests {
+    use super::*;
+    use std::test::Fail;
+
+    fn session(length: u64) -> Option<Session> {
+        Session::new(2, 2, length, 0, true, [0; 16]).ok()
+    }
+
+    #[test]
+    fn refuses_a_file_of_another_length(rt: HostRuntime) -> Result<(), Fail> {
+        let session = session(4).ok_or("a session")?;
+        let file = Bytes::copy_of(rt.alloc(), &[1, 2, 3])?;
+        let refused = Encoder::new(rt.alloc(), session, file).err();
+        let lengths = OtherLength {
+            found: 3,
+            declared: 4,
+        };
+        assert_eq!(rt; refused, Some(lengths));
+        Ok(())
+    }
+}

@@ -1,0 +1,191 @@
+// The edge to std's readers and writers. A source or a sink here tells nothing of the bytes. Where the reader or
+// the writer below tells them, its clauses are passed on.
+ghost use Rattle.std.specs.Prelude.{◌≡◌, ◌<◌, ◌≤◌, None, true, false, length, IfOk, OnOk, OnErr};
+ghost use Rattle.std.specs.Io.KnownBytes.{Keeps, ReadConsumes, WriteAppends};
+ghost use Rattle.bats_io.specs.Faults.{Rose};
+ghost use Rattle.bats_io.specs.Standard.{reader_of, source_faults, writer_of, sink_faults, sink_flushed};
+
+use crate::{Failed, Sink, Source};
+use std::io::{Read, Write};
+
+/// A source over a reader. It counts the reader's errors, up to `u64::MAX`.
+#[derive(Drop)]
+pub struct StdSource<R> {
+    inner: R,
+    faults: u64,
+}
+
+impl<R: Read> StdSource<R> {
+    /// A source over this reader, with no fault yet.
+    pub fn new(inner: R) -> Self
+        ensures reader { reader_of result ≡ inner }
+        ensures no_fault { source_faults result ≡ 0 }
+    {
+        StdSource { inner, faults: 0 }
+    }
+}
+
+impl<R: Read> Source for StdSource<R> {
+    ghost left = { λ _. None };
+
+    ghost faults = { source_faults };
+
+    fn read(&mut self, buf: &mut [u8]) -> Result<usize, Failed>
+        requires { 0 < length buf.old }
+
+        // As each source.
+        ensures within { IfOk result (λ n. n ≤ length buf.old) }
+        ensures no_fault { OnOk result (source_faults self.new ≡ source_faults self.old) }
+        ensures failed { OnErr result (Rose (source_faults self.old) (source_faults self.new)) }
+
+        // What the reader did.
+        ensures passed_on { ReadConsumes (R.remaining (reader_of self.old))
+            (R.remaining (reader_of self.new)) result buf.new }
+    {
+        match self.inner.read(buf) {
+            Ok(n) => Ok(n),
+            Err(_) => {
+                self.faults = self.faults.saturating_add(1);
+                Err(Failed)
+            }
+        }
+    }
+}
+
+/// A sink over a writer. It counts the writer's errors, and each write that took no byte, up to `u64::MAX`.
+#[derive(Drop)]
+pub struct StdSink<W> {
+    inner: W,
+    faults: u64,
+    flushed: bool,
+}
+
+impl<W: Write> StdSink<W> {
+    /// A sink over this writer, with no fault yet and not flushed.
+    pub fn new(inner: W) -> Self
+        ensures writer { writer_of result ≡ inner }
+        ensures no_fault { sink_faults result ≡ 0 }
+        ensures unflushed { sink_flushed result ≡ false }
+    {
+        StdSink {
+            inner,
+            faults: 0,
+            flushed: false,
+        }
+    }
+}
+
+impl<W: Write> Sink for StdSink<W> {
+    ghost written = { λ _. None };
+
+    ghost flushed = { sink_flushed };
+
+    ghost faults = { sink_faults };
+
+    fn write(&mut self, piece: &[u8]) -> Result<usize, Failed>
+        requires { 0 < length piece.now }
+
+        // As each sink.
+        ensures some { IfOk result (λ n. 1 ≤ n) }
+        ensures within { IfOk result (λ n. n ≤ length piece.now) }
+        ensures unflushed { OnOk result (sink_flushed self.new ≡ false) }
+        ensures no_fault { OnOk result (sink_faults self.new ≡ sink_faults self.old) }
+        ensures failed { OnErr result (Rose (sink_faults self.old) (sink_faults self.new)) }
+
+        // What the writer did.
+        ensures passed_on { WriteAppends (W.contents (writer_of self.old))
+            (W.contents (writer_of self.new)) result piece.now }
+    {
+        match self.inner.write(piece) {
+            Ok(n) if n > 0 => {
+                self.flushed = false;
+                Ok(n)
+            }
+            _ => {
+                self.faults = self.faults.saturating_add(1);
+                Err(Failed)
+            }
+        }
+    }
+
+    fn flush(&mut self) -> Result<(), Failed>
+        // As each sink.
+        ensures flushed { OnOk result (sink_flushed self.new ≡ true) }
+        ensures no_fault { OnOk result (sink_faults self.new ≡ sink_faults self.old) }
+        ensures failed { OnErr result (Rose (sink_faults self.old) (sink_faults self.new)) }
+
+        // What the writer did.
+        ensures passed_on { Keeps (W.contents (writer_of self.old)) (W.contents (writer_of self.new)) }
+    {
+        match self.inner.flush() {
+            Ok(()) => {
+                self.flushed = true;
+                Ok(())
+            }
+            Err(_) => {
+                self.faults = self.faults.saturating_add(1);
+                Err(Failed)
+            }
+        }
+    }
+}
+
+#[cfg(test)]
+mod tests {
+    use super::*;
+    use std::io;
+    use std::test::Fail;
+
+    #[derive(Drop)]
+    struct Broken;
+
+    impl Read for Broken {
+        fn read(&mut self, _buf: &mut [u8]) -> io::Result<usize> {
+            Err(io::Error::from(io::ErrorKind::Other))
+        }
+    }
+
+    // Takes nothing, and fails at each flush.
+    #[derive(Drop)]
+    struct Stuck;
+
+    impl Write for Stuck {
+        fn write(&mut self, _piece: &[u8]) -> io::Result<usize> {
+            Ok(0)
+        }
+
+        fn flush(&mut self) -> io::Result<()> {
+            Err(io::Error::from(io::ErrorKind::Other))
+        }
+    }
+
+    #[test]
+    fn reads_and_counts_errors(rt: HostRuntime) -> Result<(), Fail> {
+        let mut buf = [0; 4];
+        let mut source = StdSource::new(b"abc".as_slice());
+        assert_eq!(rt; source.read(&mut buf), Ok(3));
+        assert_eq!(rt; &buf, b"abc\0");
+        assert_eq!(rt; source.read(&mut buf), Ok(0));
+        assert_eq!(rt; source.faults, 0);
+        let mut broken = StdSource::new(Broken);
+        assert_eq!(rt; broken.read(&mut buf), Err(Failed));
+        assert_eq!(rt; broken.faults, 1);
+        Ok(())
+    }
+
+    #[test]
+    fn writes_and_counts_errors(rt: HostRuntime) -> Result<(), Fail> {
+        let mut sink = StdSink::new(Vec::new(rt.alloc()));
+        assert_eq!(rt; sink.write(b"abc"), Ok(3));
+        assert!(rt; !sink.flushed);
+        assert_eq!(rt; sink.flush(), Ok(()));
+        assert!(rt; sink.flushed);
+        assert_eq!(rt; sink.inner.as_slice(), b"abc".as_slice());
+        assert_eq!(rt; sink.faults, 0);
+        let mut stuck = StdSink::new(Stuck);
+        assert_eq!(rt; stuck.write(b"abc"), Err(Failed));
+        assert_eq!(rt; stuck.flush(), Err(Failed));
+        assert_eq!(rt; stuck.faults, 2);
+        Ok(())
+    }
+}

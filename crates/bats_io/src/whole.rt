@@ -1,0 +1,51 @@
+ghost use Rattle.std.specs.Prelude.{◌≡◌, ◌<◌, false, length, OnOk, OnErr};
+ghost use Rattle.bats_io.specs.Faults.{Rose};
+ghost use Rattle.bats_io.specs.Sink.{Appends, AppendsPrefix};
+
+use crate::{Failed, Sink};
+
+/// Writes all of `bytes`, in as many writes as the sink needs. After `Failed` a prefix of them was appended.
+#[tactic(auto, using(crate::proofs::Appended::pieces))]
+pub fn write_whole<K: Sink>(sink: &mut K, bytes: &[u8]) -> Result<(), Failed>
+    ensures appended { OnOk result (Appends (K.written sink.old) (K.written sink.new) bytes.now) }
+    ensures unflushed { OnOk result (0 < length bytes.now → K.flushed sink.new ≡ false) }
+    ensures nothing_to_write { OnOk result (length bytes.now ≡ 0
+        → K.flushed sink.new ≡ K.flushed sink.old) }
+    ensures no_fault { OnOk result (K.faults sink.new ≡ K.faults sink.old) }
+    ensures failed { OnErr result (Rose (K.faults sink.old) (K.faults sink.new)) }
+    ensures prefix { OnErr result (AppendsPrefix (K.written sink.old) (K.written sink.new) bytes.now) }
+{
+    let mut done = 0;
+    while done < bytes.len() {
+        done += sink.write(&bytes[done..])?;
+    }
+    Ok(())
+}
+
+#[cfg(test)]
+mod tests {
+    use super::*;
+    use crate::MemSink;
+    use std::test::Fail;
+
+    #[test]
+    fn writes_in_pieces(rt: HostRuntime) -> Result<(), Fail> {
+        let alloc = rt.alloc();
+        let mut sink = MemSink::with_room(alloc, 10, 3, Vec::new(alloc))?;
+        assert_eq!(rt; write_whole(&mut sink, b"0123456789"), Ok(()));
+        assert_eq!(rt; write_whole(&mut sink, b""), Ok(()));
+        assert_eq!(rt; sink.written(), b"0123456789".as_slice());
+        Ok(())
+    }
+
+    #[test]
+    fn stops_at_a_failed_write(rt: HostRuntime) -> Result<(), Fail> {
+        let alloc = rt.alloc();
+        let mut sink = MemSink::with_room(alloc, 9, 2, vec![in alloc; 2]?)?;
+        assert_eq!(rt; write_whole(&mut sink, b"abcdef"), Err(Failed));
+        assert_eq!(rt; sink.written(), b"ab".as_slice());
+        assert_eq!(rt; write_whole(&mut sink, b"cd"), Ok(()));
+        assert_eq!(rt; sink.written(), b"abcd".as_slice());
+        Ok(())
+    }
+}

@@ -1,0 +1,2 @@
+pub mod SystematicBatches
+mod Examples

@@ -1,0 +1,26 @@
+-- Coded packets: contributors times generator.
+use Rattle.std.specs.Prelude.{ℕ, ◌==◌, if◌then◌else◌, List, map}
+use Rattle.std.specs.List.{range_with_len}
+use Rattle.gf_core.specs.Field.{gf_mul, gf_sum}
+use Rattle.bats_model.specs.Session.{SessionData}
+use Rattle.bats_model.specs.Symbol.{symbol_byte}
+use Rattle.bats_model.specs.Batch.{BatchData, degree_of, contributor_of, entry_of}
+
+-- what contributor k adds to byte c of coded packet j
+abbrev pub coded_term : SessionData → List ℕ → BatchData → ℕ → ℕ → ℕ → ℕ
+coded_term session file batch j c k =
+    gf_mul (entry_of batch k j) (symbol_byte session file (contributor_of batch k) c)
+
+-- byte c of coded packet j of a batch: the sum, over the contributors, of the generator's entry times the
+-- contributor's byte
+unfoldable pub coded_byte : SessionData → List ℕ → BatchData → ℕ → ℕ → ℕ
+coded_byte session file batch j c = gf_sum (degree_of batch) (coded_term session file batch j c)
+
+-- the payload of coded packet j
+unfoldable pub coded_payload : SessionData → List ℕ → BatchData → ℕ → List ℕ
+coded_payload session file batch j =
+    map (coded_byte session file batch j) (range_with_len 0 session.t)
+
+-- the vector of m coefficients that is 1 at place j and 0 elsewhere
+unfoldable pub unit_vector : ℕ → ℕ → List ℕ
+unit_vector m j = map (λ i. if i == j then 1 else 0) (range_with_len 0 m)

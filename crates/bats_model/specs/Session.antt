@@ -1,0 +1,35 @@
+-- A session: what source, relays and sink agree on.
+use Rattle.std.specs.Prelude.{ℕ, ◌≡◌, ◌%◌, ◌≢◌, ◌≤◌, ◌<◌, Bool, List, length}
+use Rattle.std.specs.Int.{div_ceil}
+
+-- the parameters of a session: packets of a batch, bytes of a symbol, bytes of the file, number of the degree
+-- table, whether the first batches are systematic, and the seed
+pub record SessionData : Type 0 where
+  pub m : ℕ
+  pub t : ℕ
+  pub file_length : ℕ
+  pub table : ℕ
+  pub systematic : Bool
+  pub seed : List ℕ
+
+-- the number of symbols of t bytes that hold a file of this length
+abbrev pub symbol_count : ℕ → ℕ → ℕ
+symbol_count file_length t = div_ceil file_length t
+
+-- the number of symbols of a session
+abbrev pub symbols_of : SessionData → ℕ
+symbols_of session = symbol_count session.file_length session.t
+
+-- the last symbol is only in part the file's
+abbrev pub IsPadded : SessionData → Type 0
+IsPadded session = session.file_length % session.t ≢ 0
+
+-- the parameters are within the limits
+pub record IsSession (session : SessionData) : Type 0 where
+  pub m_low : 1 ≤ session.m
+  pub m_high : session.m ≤ 32
+  pub t_low : 1 ≤ session.t
+  pub t_high : session.t ≤ 2048
+  pub table : session.table < 2
+  pub symbols : symbols_of session ≤ 4096
+  pub seed : length session.seed ≡ 16

@@ -1,0 +1,73 @@
+-- The ranges that the values of a command are held to.
+use Rattle.std.proofs.Common.{ℕ, ◌≡◌, ◌≤◌, Bool, true, false, ◌&&◌, cond, List, [], ◌∷◌, subst, Option, None, Some, arith, rules}
+use Rattle.std.proofs.lemmas.Bool.Decides.{nat_tests}
+use Rattle.std.specs.Prelude.{codes, nat_le}
+use Rattle.std.specs.Option.{option_and_then}
+use Rattle.std.proofs.lemmas.Option.{cond_some, option_and_then_some}
+use Rattle.std.specs.Str.Parse.{digits_value}
+use Rattle.bats_tool.specs.declared.command.Command.{Command}
+use Rattle.bats_tool.specs.declared.command.Command.TheVariants.{Source}
+use Rattle.bats_tool.specs.Options.{HasRanges, options_of}
+use Rattle.bats_tool.specs.WordValues.{number_in, is_number_word, seed_of}
+use Rattle.bats_tool.specs.WordItems.{read_items, value_of, is_there}
+use Rattle.bats_tool.specs.Words.{command_of, source_of, read_by, read_or, source_names}
+
+in_range : (b : Bool) (low v high n : ℕ) → cond (b && nat_le low v && nat_le v high) (Some v) None ≡ Some n → (low ≤ n) × (n ≤ high)
+in_range b low v high n h =
+    let w = cond_some (b && nat_le low v && nat_le v high) v n h in
+    let l : low ≤ v = grind (arith, nat_tests, rules, w.0) in
+    let r : v ≤ high = grind (arith, nat_tests, rules, w.0) in
+    (omega (arith, w.1), omega (arith, w.1))
+
+pub number_in-range : (low high : ℕ) (word : List ℕ) (n : ℕ) → number_in low high word ≡ Some n → (low ≤ n) × (n ≤ high)
+unfolding number_in
+number_in-range low high word n h = in_range (is_number_word word) low (digits_value 10 word) high n h
+
+-- a value that is read, or a default in the range
+read_or-range : (default low high n : ℕ) (word : Option (List ℕ)) → low ≤ default → default ≤ high → read_or default (number_in low high) word ≡ Some n
+    → (low ≤ n) × (n ≤ high)
+read_or-range default low high n None l r h = let same : default ≡ n = cc in (omega arith, omega arith)
+read_or-range default low high n (Some word) l r h = number_in-range low high word n h
+
+option_range : (low high n : ℕ) (word : Option (List ℕ)) → option_and_then (number_in low high) word ≡ Some n → (low ≤ n) × (n ≤ high)
+option_range low high n None h = cc
+option_range low high n (Some word) h = number_in-range low high word n h
+
+source_of-ranges : (value : List ℕ → Option (List ℕ)) (flag : List ℕ → Bool) (command : Command)
+    → source_of value flag ≡ Some command → HasRanges (options_of command)
+unfolding source_of
+source_of-ranges value flag command h =
+    option_and_then_some _ (option_and_then (number_in 1 32) (value (codes "--m"))) command h (λ m m_is rest.
+    option_and_then_some _ (option_and_then (number_in 1 2048) (value (codes "--t"))) command rest (λ t t_is rest'.
+    option_and_then_some _ (option_and_then seed_of (value (codes "--seed"))) command rest' (λ seed seed_is rest2.
+    option_and_then_some _ (option_and_then (number_in 0 32767) (value (codes "--batches"))) command rest2 (λ batches batches_is rest3.
+    option_and_then_some _ (read_or 0 (number_in 0 1) (value (codes "--table"))) command rest3 (λ table table_is rest4.
+    option_and_then_some _ (read_or 0 (number_in 0 4000000000) (value (codes "--from"))) command rest4 (λ first first_is rest5.
+    let same : Source m t table (flag (codes "--systematic")) seed first batches ≡ command = cc in
+    let rm = option_range 1 32 m (value (codes "--m")) m_is in
+    let rt = option_range 1 2048 t (value (codes "--t")) t_is in
+    let rb = option_range 0 32767 batches (value (codes "--batches")) batches_is in
+    let rtab = read_or-range 0 0 1 table (value (codes "--table")) (omega arith) (omega arith) table_is in
+    let rf = read_or-range 0 0 4000000000 first (value (codes "--from")) (omega arith) (omega arith) first_is in
+    subst (λ (c : Command). HasRanges (options_of c)) same (record {
+      m_low = rm.0;
+      m_high = rm.1;
+      t_low = rt.0;
+      t_high = rt.1;
+      table_high = omega (arith, rtab.1);
+      first_high = rf.1;
+      batches_high = rb.1;
+    })))))))
+
+choice_some : (b : Bool) (o : Option Command) (command : Command) → cond b o None ≡ Some command → o ≡ Some command
+choice_some true o command h = h
+choice_some false o command h = cc
+
+-- each command has its values in their ranges
+pub command_of-ranges : (words : List (List ℕ)) (command : Command) → command_of words ≡ Some command → HasRanges (options_of command)
+unfolding command_of
+command_of-ranges [] command h = cc
+command_of-ranges (name ∷ words) command h =
+    let found = choice_some _ (read_by source_names source_of words) command h in
+    option_and_then_some _ (read_items source_names words) command found (λ items items_is rest.
+    source_of-ranges (λ name. value_of name items) (λ name. is_there name items) command rest)

@@ -1,0 +1,17 @@
+pub mod Writing
+pub mod Ranges
+pub mod Loops
+pub mod Sampled
+pub mod Reading
+pub mod Endings
+pub mod Counts
+pub mod Preparing
+pub mod Sourcing
+pub mod Outcomes
+pub mod ListTests
+pub mod SourceWords
+pub mod WordLookups
+pub mod WordNumbers
+pub mod WordSplits
+pub mod CommandRanges
+pub mod Attempting

@@ -1,0 +1,13 @@
+use Rattle.std.proofs.Common.{◌≡◌, ◌+◌, ◌-◌, ◌≤◌, vec_len}
+use Rattle.bats_tool.specs.Streams.{IsRead}
+use Rattle.bats_tool.proofs.read.read_up_to.Given as goal
+
+abbrev pub invariant-loop-file : goal.invariant-loop-file
+invariant-loop-file g l = record {
+  read : IsRead (g.S.Source.left l.fn.input) (g.S.Source.left l.input) l.file.items;
+  within : vec_len l.file ≤ l.most + 1;
+  no_fault : g.S.Source.faults l.input ≡ g.S.Source.faults l.fn.input;
+}
+
+abbrev pub decreases-loop-file : goal.decreases-loop-file
+decreases-loop-file g l = l.most + 1 - vec_len l.file

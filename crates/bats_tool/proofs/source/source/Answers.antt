@@ -1,0 +1,46 @@
+use Rattle.std.proofs.Common.{◌≡◌, ◌∙◌, ap, sym, ℕ, List}
+use Rattle.bats_model.specs.Session.{SessionData}
+use Rattle.bats_encoder.specs.Encoder.{EncoderData}
+use Rattle.bats_tool.specs.Source.{asks_for_sampled, source_output}
+use Rattle.bats_tool.proofs.Writing.{Writes-same}
+use Rattle.bats_tool.proofs.Sourcing.{Sources-cut_short, Sources-done}
+use Rattle.bats_tool.proofs.source.source.Goals as goal
+
+pub write_output-requires-clause-systematic : goal.write_output-requires-clause-systematic
+write_output-requires-clause-systematic g c =
+    let o = c.args.options.now in
+    let encoded : c.in-Ok.encoder.session ≡ c.in_ok-session.session = ap (λ (e : EncoderData). e.session) c.in-Ok.ensures.ok in
+    ap (λ (s : SessionData). asks_for_sampled s o.first o.batches) (encoded ∙ c.in_ok-session.ensures.session_is)
+    ∙ c.in_ok-session.ensures.systematic
+
+pub returns-in_err-write_output-in-Ok : goal.returns-in_err-write_output-in-Ok
+returns-in_err-write_output-in-Ok g c =
+    let o = c.args.options.now in
+    let encoded : c.in-Ok.encoder.session ≡ c.in_ok-session.session = ap (λ (e : EncoderData). e.session) c.in-Ok.ensures.ok in
+    let file : c.in-Ok.encoder.file ≡ c.in_ok-session.file.items = ap (λ (e : EncoderData). e.file) c.in-Ok.ensures.ok ∙ c.from.ensures in
+    let output : source_output c.in_ok-session.session c.in_ok-session.file.items o.first o.batches
+    ≡ source_output c.in-Ok.encoder.session c.in-Ok.encoder.file o.first o.batches =
+    sym (ap (λ (s : SessionData). source_output s c.in-Ok.encoder.file o.first o.batches) encoded
+    ∙ ap (λ (bytes : List ℕ). source_output c.in_ok-session.session bytes o.first o.batches) file) in
+    Sources-cut_short o _ _
+    (record { written = g.O.Sink.written c.args.output.now; flushed = g.O.Sink.flushed c.args.output.now; faults = g.O.Sink.faults c.args.output.now })
+    (record { written = g.O.Sink.written c.write_output.new.output; flushed = g.O.Sink.flushed c.write_output.new.output; faults = g.O.Sink.faults c.write_output.new.output })
+    c.in_ok-session.session c.in_ok-session.file.items c.in_err-write_output-in-Ok.field-0.0 _
+    c.in_ok-session.ensures (Writes-same output c.in_err-write_output-in-Ok.ensures.written)
+    c.from_residual-in_err-write_output-in-Ok.ensures.1
+
+pub returns : goal.returns
+returns g c =
+    let o = c.args.options.now in
+    let encoded : c.in-Ok.encoder.session ≡ c.in_ok-session.session = ap (λ (e : EncoderData). e.session) c.in-Ok.ensures.ok in
+    let file : c.in-Ok.encoder.file ≡ c.in_ok-session.file.items = ap (λ (e : EncoderData). e.file) c.in-Ok.ensures.ok ∙ c.from.ensures in
+    let output : source_output c.in_ok-session.session c.in_ok-session.file.items o.first o.batches
+    ≡ source_output c.in-Ok.encoder.session c.in-Ok.encoder.file o.first o.batches =
+    sym (ap (λ (s : SessionData). source_output s c.in-Ok.encoder.file o.first o.batches) encoded
+    ∙ ap (λ (bytes : List ℕ). source_output c.in_ok-session.session bytes o.first o.batches) file) in
+    Sources-done o _ _
+    (record { written = g.O.Sink.written c.args.output.now; flushed = g.O.Sink.flushed c.args.output.now; faults = g.O.Sink.faults c.args.output.now })
+    (record { written = g.O.Sink.written c.write_output.new.output; flushed = g.O.Sink.flushed c.write_output.new.output; faults = g.O.Sink.faults c.write_output.new.output })
+    c.in_ok-session.session c.in_ok-session.file.items c.in_ok-line.line
+    c.in_ok-session.ensures (Writes-same output c.in_ok-write_output-in-Ok.ensures.written)
+    c.in_ok-write_output-in-Ok.ensures.flushed c.in_ok-line.ensures

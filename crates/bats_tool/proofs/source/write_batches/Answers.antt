@@ -1,0 +1,28 @@
+use Rattle.std.proofs.Common.{◌≡◌, ap, sym, arith, ℕ, flat_map}
+use Rattle.std.specs.List.{range_with_len}
+use Rattle.bats_tool.specs.Source.{batch_records, packet_records}
+use Rattle.bats_tool.proofs.Writing.{Writes-same}
+use Rattle.bats_tool.proofs.Loops.{Writes-more, Writes-failed}
+use Rattle.bats_tool.proofs.Sampled.{is_systematic_batch-asked}
+use Rattle.bats_tool.proofs.source.write_batches.Goals as goal
+
+pub write_numbered-requires-clause-systematic : goal.write_numbered-requires-clause-systematic
+write_numbered-requires-clause-systematic g c =
+    is_systematic_batch-asked c.args.encoder.now.session c.args.first c.args.batches c.loop-i.i c.requires.systematic (omega arith)
+
+pub loop-i-preserved : goal.loop-i-preserved
+loop-i-preserved g c =
+    Writes-more (batch_records c.args.encoder.now.session c.args.encoder.now.file) c.args.first c.loop-i.i
+    c.loop-i.invariant c.in_ok-write_numbered.ensures
+
+pub returns-in_err-write_numbered : goal.returns-in_err-write_numbered
+unfolding packet_records
+returns-in_err-write_numbered g c =
+    Writes-failed (batch_records c.args.encoder.now.session c.args.encoder.now.file) c.args.first c.args.batches c.loop-i.i _ (omega arith)
+    c.from_residual.ensures.1 c.loop-i.invariant c.in_err-write_numbered.ensures
+
+pub returns : goal.returns
+unfolding packet_records
+returns g c =
+    let all : c.loop-i.i ≡ c.args.batches = omega arith in
+    Writes-same (ap (λ (n : ℕ). flat_map (batch_records c.args.encoder.now.session c.args.encoder.now.file) (range_with_len c.args.first n)) (sym all)) c.loop-i.invariant

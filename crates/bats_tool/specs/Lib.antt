@@ -1,0 +1,13 @@
+pub mod Words
+pub mod WordItems
+pub mod WordLookup
+pub mod WordValues
+pub mod Options
+pub mod Records
+pub mod Source
+pub mod Status
+pub mod Streams
+pub mod Ending
+pub mod Writes
+pub mod Reads
+pub mod Attempt

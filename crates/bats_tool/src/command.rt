@@ -1,0 +1,23 @@
+//! The commands of the program.
+
+/// What the words of a command line ask for.
+#[derive(Clone, Copy, Debug, PartialEq, Eq)]
+pub enum Command {
+    /// Sends the batches of the file that is read.
+    Source {
+        /// Packets of a batch.
+        m: u8,
+        /// Bytes of a symbol.
+        t: u16,
+        /// The degree table.
+        table: u8,
+        /// Whether the first batches hold the file's own symbols.
+        systematic: bool,
+        /// The session's seed.
+        seed: [u8; 16],
+        /// The number of the first batch.
+        first: u32,
+        /// How many batches, from the first on.
+        batches: u32,
+    },
+}

@@ -1,0 +1,115 @@
+//! BATS codes with source, recoding relays and sink: the command line.
+#![tactic(auto)]
+
+ghost use Rattle.std.specs.Prelude.{◌≡◌, ◌<◌};
+
+mod command;
+mod read;
+mod records;
+mod refuse;
+mod report;
+mod run;
+mod source;
+mod status;
+mod stop;
+#[cfg(test)]
+mod tests;
+mod words;
+
+use bats_io::{Sink, Source, StdSink, StdSource};
+use gf_rows::Steps;
+use run::run;
+use status::Status;
+use std::alloc::Global;
+use std::io::{BufWriter, Read, Write};
+use std::marker::Brand;
+use std::process::ExitCode;
+use std::rt::Env;
+use std::sync::ledger::{Blank, Ledger};
+use std::thread::Threads;
+use std::{env, io};
+
+// Runs the program with counters that begin at 0.
+fn run_counted<R: Threads + Sync, S: Source, O: Sink, N: Sink, C: Ledger, L: Ledger>(
+    rt: &R,
+    alloc: Global,
+    words: &Vec<String>,
+    streams: (&mut S, &mut O, &mut N),
+    counters: (Blank, Blank),
+) -> Status
+    requires coef_name { counters.0.name ≡ C.name }
+    requires coef_parts { counters.0.parts ≡ C.parts }
+    requires coef_some { 0 < counters.0.parts }
+    requires name { counters.1.name ≡ L.name }
+    requires parts { counters.1.parts ≡ L.parts }
+    requires some { 0 < counters.1.parts }
+{
+    let (input, output, notes) = streams;
+    let (coef_blank, blank) = counters;
+    let mut coef_steps = Steps::<C>::new(coef_blank);
+    let mut steps = Steps::<L>::new(blank);
+    run(
+        rt,
+        alloc,
+        words,
+        input,
+        output,
+        notes,
+        &mut coef_steps,
+        &mut steps,
+    )
+}
+
+// Runs the program over these streams.
+fn run_over<R: Threads + Sync, S: Source, O: Sink, N: Sink>(
+    rt: &R,
+    alloc: Global,
+    words: &Vec<String>,
+    input: &mut S,
+    output: &mut O,
+    notes: &mut N,
+) -> Status {
+    let counters = (Blank::new(1), Blank::new(1));
+    run_counted::<R, S, O, N, Brand, Brand>(rt, alloc, words, (input, output, notes), counters)
+}
+
+// The words after the program's name. Words that are no text are no command, as are no words.
+fn words_of<R: Env + AllocGlobal>(rt: &R) -> io::Result<Vec<String>> {
+    match env::args(rt) {
+        Ok(words) => Ok(words.skip(1).collect(rt.alloc())?),
+        Err(error) if error.kind() == io::ErrorKind::OutOfMemory => Err(error),
+        Err(_) => Ok(Vec::new(rt.alloc())),
+    }
+}
+
+// Runs the program on its own words, with a buffer before the output.
+fn run_process<R: Threads + Sync + Env + AllocGlobal, I: Read, O: Write, N: Write>(
+    rt: &R,
+    input: I,
+    output: O,
+    notes: N,
+) -> io::Result<Status>
+where
+    I: Drop,
+    O: Drop,
+    N: Drop,
+{
+    let alloc = rt.alloc();
+    let words = words_of(rt)?;
+    let output = BufWriter::new(alloc, output)?;
+    let mut input = StdSource::new(input);
+    let mut output = StdSink::new(output);
+    let mut notes = StdSink::new(notes);
+    Ok(run_over(rt, alloc, &words, &mut input, &mut output, &mut notes))
+}
+
+fn main(rt: HostRuntime) -> ExitCode {
+    let status = match run_process(&rt, rt.stdin(), rt.stdout(), rt.stderr()) {
+        Ok(status) => status,
+        Err(_) => {
+            let _ = rt.eprintln("bats: out of memory");
+            Status::Memory
+        }
+    };
+    ExitCode::from(status.code())
+}

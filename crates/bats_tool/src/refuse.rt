@@ -1,0 +1,26 @@
+ghost use Rattle.bats_tool.specs.Ending.{RefusesBy};
+
+use crate::report::report;
+use crate::status::Status;
+use crate::stop::Stop;
+use bats_io::Sink;
+
+/// Ends a run that stops for a cause: the output is flushed, unless a write of it failed, and the notes get the line
+/// of the cause. A flush that fails is a cause of its own.
+pub fn refuse<O: Sink, N: Sink>(output: &mut O, notes: &mut N, stop: Stop) -> Status
+    ensures { RefusesBy stop
+        (record { written = O.written output.old; flushed = O.flushed output.old; faults = O.faults output.old })
+        (record { written = O.written output.new; flushed = O.flushed output.new; faults = O.faults output.new })
+        (record { written = N.written notes.old; flushed = N.flushed notes.old; faults = N.faults notes.old })
+        (record { written = N.written notes.new; flushed = N.flushed notes.new; faults = N.faults notes.new })
+        result }
+{
+    let stop = match stop {
+        Stop::WriteFault => Stop::WriteFault,
+        other => match output.flush() {
+            Ok(()) => other,
+            Err(_) => Stop::WriteFault,
+        },
+    };
+    report(notes, stop.line().as_bytes(), stop.status())
+}

@@ -1,0 +1,97 @@
+ghost use Rattle.std.specs.Prelude.{◌≡◌, map, string_bytes, Some};
+ghost use Rattle.bats_tool.specs.Words.{command_of};
+ghost use Rattle.bats_tool.specs.Options.{options_of};
+ghost use Rattle.bats_tool.specs.Ending.{IsRun};
+ghost use Rattle.bats_tool.specs.Attempt.{Attempts};
+
+use crate::command::Command;
+use crate::refuse::refuse;
+use crate::report::report;
+use crate::source::{SourceOptions, source};
+use crate::status::Status;
+use crate::stop::Stop;
+use crate::words::parse;
+use bats_io::{Sink, Source};
+use gf_rows::Steps;
+use std::alloc::Global;
+use std::sync::ledger::Ledger;
+use std::thread::Threads;
+
+// What a command of `source` asks for.
+fn options(command: &Command) -> SourceOptions
+    ensures { result ≡ options_of command.now }
+{
+    match *command {
+        Command::Source {
+            m,
+            t,
+            table,
+            systematic,
+            seed,
+            first,
+            batches,
+        } => SourceOptions {
+            m,
+            t,
+            table,
+            systematic,
+            seed,
+            first,
+            batches,
+        },
+    }
+}
+
+// Does what the words ask for, up to the notes line.
+fn attempt<S: Source, O: Sink>(
+    alloc: Global,
+    words: &Vec<String>,
+    input: &mut S,
+    output: &mut O,
+) -> Result<String, Stop>
+    ensures { Attempts (command_of (map string_bytes words.now.items))
+        (record {
+          input = record { left = S.left input.old; faults = S.faults input.old };
+          output = record { written = O.written output.old; flushed = O.flushed output.old; faults = O.faults output.old };
+        })
+        (record {
+          input = record { left = S.left input.new; faults = S.faults input.new };
+          output = record { written = O.written output.new; flushed = O.flushed output.new; faults = O.faults output.new };
+        })
+        result }
+{
+    match parse(words) {
+        Some(command) => source(alloc, &options(&command), input, output),
+        None => Err(Stop::Usage),
+    }
+}
+
+/// Runs the program on the words after its name: reads the input, writes and flushes the output, then the notes.
+pub fn run<R: Threads + Sync, S: Source, O: Sink, N: Sink, C: Ledger, L: Ledger>(
+    _rt: &R,
+    alloc: Global,
+    words: &Vec<String>,
+    input: &mut S,
+    output: &mut O,
+    notes: &mut N,
+    _coef_steps: &mut Steps<C>,
+    _steps: &mut Steps<L>,
+) -> Status
+    ensures { IsRun (command_of (map string_bytes words.now.items))
+        (record {
+          input = record { left = S.left input.old; faults = S.faults input.old };
+          output = record { written = O.written output.old; flushed = O.flushed output.old; faults = O.faults output.old };
+          notes = record { written = N.written notes.old; flushed = N.flushed notes.old; faults = N.faults notes.old };
+        })
+        (record {
+          input = record { left = S.left input.new; faults = S.faults input.new };
+          output = record { written = O.written output.new; flushed = O.flushed output.new; faults = O.faults output.new };
+          notes = record { written = N.written notes.new; flushed = N.flushed notes.new; faults = N.faults notes.new };
+        })
+        result }
+{
+    match attempt(alloc, words, input, output) {
+        Ok(line) => report(notes, line.as_bytes(), Status::Done),
+        Err(stop) => refuse(output, notes, stop),
+    }
+}

@@ -1,0 +1,30 @@
+ghost use Rattle.std.specs.Prelude.{◌≡◌};
+ghost use Rattle.bats_tool.specs.Status.{code_of};
+
+/// How a run ends. The number is the program's exit status.
+#[derive(Clone, Copy, Debug, PartialEq, Eq)]
+pub enum Status {
+    /// The command did what it is defined to do.
+    Done = 0,
+    /// The words are no command.
+    Usage = 3,
+    /// The file has more than 4,096 symbols.
+    Limit = 5,
+    /// A read of the input failed.
+    ReadFault = 6,
+    /// A write or a flush of the output or of the notes failed.
+    WriteFault = 7,
+    /// Memory ran out.
+    Memory = 8,
+    /// A batch is asked for that is not systematic, which is not built yet.
+    NotBuilt = 10,
+}
+
+impl Status {
+    /// The exit status of the program.
+    pub fn code(self) -> u8
+        ensures { result ≡ code_of self }
+    {
+        self as u8
+    }
+}

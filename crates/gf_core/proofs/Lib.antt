@@ -1,0 +1,7 @@
+pub mod AddLemmas
+pub mod DoubleLemmas
+pub mod SumLemmas
+pub mod ProductLemmas
+pub mod PowerLemmas
+pub mod InverseLemmas
+mod Examples

@@ -1,0 +1,7 @@
+pub mod RowLemmas
+pub mod HalfLemmas
+pub mod PlanLemmas
+pub mod BufferLemmas
+pub mod MatrixLemmas
+pub mod LinearLemmas
+mod Examples

@@ -1,0 +1,86 @@
+-- A linear function of rows, such as the entry at a place or the product with a list of elements. Operations on the
+-- rows do to the list of its values what they do to a column.
+use Rattle.std.proofs.Common.{ℕ, ◌≡◌, ◌<◌, ◌∙◌, List, [], ◌∷◌, length, get_or, set, sym, ap, refl, arith}
+use Rattle.std.specs.Prelude.{All, map}
+use Rattle.std.proofs.lemmas.List.{map-set, get_or-map}
+use Rattle.std.proofs.lemmas.List.Elements.{All-head, All-tail, All-set}
+use Rattle.gf_core.specs.Field.{gf_add, gf_mul, gf_sum}
+use Rattle.gf_core.proofs.SumLemmas.{gf_sum-congruence, gf_sum-gf_add}
+use Rattle.gf_core.proofs.ProductLemmas.{gf_mul-gf_add_left, gf_mul-gf_sum, gf_mul_assoc}
+use Rattle.gf_rows.specs.declared.operation.Op.{Op}
+use Rattle.gf_rows.specs.declared.operation.Op.TheVariants.{AddScaled, Scale}
+use Rattle.gf_rows.specs.Rows.{AreBytes, scaled_row, add_scaled_row}
+use Rattle.gf_rows.specs.Operation.{FitsRows, op_on_column, op_on_rows}
+use Rattle.gf_rows.specs.Plan.{plan_on_column, plan_on_rows}
+use Rattle.gf_rows.proofs.RowLemmas.{byte_at, get_or-add_scaled_row, get_or-scaled_row, add_scaled_row-lt, scaled_row-lt}
+use Rattle.gf_rows.proofs.PlanLemmas.{length-op_on_rows, op_on_rows-widths}
+
+-- the function of rows of this width keeps sums and multiples
+pub record IsLinear (width : ℕ) (h : List ℕ → ℕ) : Type 0 where
+  pub of_sum : (a : List ℕ) (c : ℕ) (b : List ℕ) → length a ≡ width → length b ≡ width → AreBytes a → AreBytes b → h (add_scaled_row a c b) ≡ gf_add (h a) (gf_mul c (h b))
+  pub of_multiple : (c : ℕ) (a : List ℕ) → length a ≡ width → AreBytes a → h (scaled_row c a) ≡ gf_mul c (h a)
+
+-- each of the rows has this width, and bytes
+pub record AreRows (width : ℕ) (rows : List (List ℕ)) : Type 0 where
+  pub widths : All (λ row. length row ≡ width) rows
+  pub bytes : All AreBytes rows
+
+-- rows of bytes stay rows of bytes
+pub AreRows-op_on_rows : (width : ℕ) (rows : List (List ℕ)) (op : Op) → FitsRows (length rows) op → AreRows width rows → AreRows width (op_on_rows rows op)
+AreRows-op_on_rows width rows (AddScaled dst src factor) fits are = record {
+  widths = op_on_rows-widths rows width (AddScaled dst src factor) fits are.widths;
+  bytes = All-set AreBytes rows dst _ (add_scaled_row-lt (get_or rows dst []) factor (get_or rows src []) (are.bytes dst [] fits.0) (are.bytes src [] fits.1)) are.bytes;
+}
+AreRows-op_on_rows width rows (Scale row factor) fits are = record {
+  widths = op_on_rows-widths rows width (Scale row factor) fits are.widths;
+  bytes = All-set AreBytes rows row _ (scaled_row-lt factor (get_or rows row []) (are.bytes row [] fits)) are.bytes;
+}
+
+-- the operation on whole rows is the operation on the values of a linear function
+pub map-op_on_rows : (h : List ℕ → ℕ) (width : ℕ) (rows : List (List ℕ)) (op : Op) → IsLinear width h → FitsRows (length rows) op → AreRows width rows
+    → map h (op_on_rows rows op) ≡ op_on_column (map h rows) op
+map-op_on_rows h width rows (AddScaled dst src factor) linear fits are =
+    map-set h rows dst (add_scaled_row (get_or rows dst []) factor (get_or rows src [])) ∙ ap (set (map h rows) dst) value
+  where
+    value : h (add_scaled_row (get_or rows dst []) factor (get_or rows src [])) ≡ gf_add (get_or (map h rows) dst 0) (gf_mul factor (get_or (map h rows) src 0))
+    value =
+        linear.of_sum (get_or rows dst []) factor (get_or rows src []) (are.widths dst [] fits.0) (are.widths src [] fits.1) (are.bytes dst [] fits.0) (are.bytes src [] fits.1) ∙
+        (ap (λ x. gf_add x (gf_mul factor (h (get_or rows src [])))) (sym (get_or-map h rows dst [] 0 fits.0)) ∙
+        ap (λ x. gf_add (get_or (map h rows) dst 0) (gf_mul factor x)) (sym (get_or-map h rows src [] 0 fits.1)))
+map-op_on_rows h width rows (Scale row factor) linear fits are =
+    map-set h rows row (scaled_row factor (get_or rows row [])) ∙
+    ap (set (map h rows) row) (linear.of_multiple factor (get_or rows row []) (are.widths row [] fits) (are.bytes row [] fits) ∙ ap (gf_mul factor) (sym (get_or-map h rows row [] 0 fits)))
+
+-- the plan on whole rows is the plan on the values of a linear function
+pub map-plan_on_rows : (h : List ℕ → ℕ) (width : ℕ) (ops : List Op) (rows : List (List ℕ)) → IsLinear width h → All (FitsRows (length rows)) ops → AreRows width rows
+    → map h (plan_on_rows ops rows) ≡ plan_on_column ops (map h rows)
+unfolding plan_on_rows plan_on_column
+map-plan_on_rows h width [] rows linear fits are = refl
+map-plan_on_rows h width (op ∷ ops) rows linear fits are =
+    let first = All-head (FitsRows (length rows)) op ops fits in
+    map-plan_on_rows h width ops (op_on_rows rows op) linear (rw (length-op_on_rows rows op) (All-tail (FitsRows (length rows)) op ops fits)) (AreRows-op_on_rows width rows op first are) ∙
+    ap (plan_on_column ops) (map-op_on_rows h width rows op linear first are)
+
+pub AreRows-plan_on_rows : (width : ℕ) (ops : List Op) (rows : List (List ℕ)) → All (FitsRows (length rows)) ops → AreRows width rows → AreRows width (plan_on_rows ops rows)
+unfolding plan_on_rows
+AreRows-plan_on_rows width [] rows fits are = are
+AreRows-plan_on_rows width (op ∷ ops) rows fits are =
+    AreRows-plan_on_rows width ops (op_on_rows rows op) (rw (length-op_on_rows rows op) (All-tail (FitsRows (length rows)) op ops fits))
+    (AreRows-op_on_rows width rows op (All-head (FitsRows (length rows)) op ops fits) are)
+
+-- the product with a list of elements is linear
+pub IsLinear-product : (width : ℕ) (x : ℕ → ℕ) → ((j : ℕ) → j < width → x j < 256) → IsLinear width (λ row. gf_sum width (λ j. gf_mul (get_or row j 0) (x j)))
+IsLinear-product width x below = record {
+  of_sum = λ a c b la lb pa pb.
+      gf_sum-congruence width (λ j. gf_mul (get_or (add_scaled_row a c b) j 0) (x j)) (λ j. gf_add (gf_mul (get_or a j 0) (x j)) (gf_mul c (gf_mul (get_or b j 0) (x j))))
+      (λ j h.
+      ap (λ y. gf_mul y (x j)) (get_or-add_scaled_row a c b j (omega (arith, la))) ∙
+      (gf_mul-gf_add_left (get_or a j 0) (gf_mul c (get_or b j 0)) (x j) ∙
+      ap (gf_add (gf_mul (get_or a j 0) (x j))) (gf_mul_assoc c (get_or b j 0) (x j) (byte_at b j pb) (below j h)))) ∙
+      (gf_sum-gf_add width (λ j. gf_mul (get_or a j 0) (x j)) (λ j. gf_mul c (gf_mul (get_or b j 0) (x j))) ∙
+      ap (gf_add (gf_sum width (λ j. gf_mul (get_or a j 0) (x j)))) (sym (gf_mul-gf_sum c width (λ j. gf_mul (get_or b j 0) (x j)))));
+  of_multiple = λ c a la pa.
+      gf_sum-congruence width (λ j. gf_mul (get_or (scaled_row c a) j 0) (x j)) (λ j. gf_mul c (gf_mul (get_or a j 0) (x j)))
+      (λ j h. ap (λ y. gf_mul y (x j)) (get_or-scaled_row c a j) ∙ gf_mul_assoc c (get_or a j 0) (x j) (byte_at a j pa) (below j h)) ∙
+      sym (gf_mul-gf_sum c width (λ j. gf_mul (get_or a j 0) (x j)));
+}

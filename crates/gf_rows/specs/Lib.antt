@@ -1,0 +1,5 @@
+pub mod Rows
+pub mod HalfProducts
+pub mod Operation
+pub mod Plan
+pub mod Matrix

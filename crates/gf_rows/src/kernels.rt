@@ -1,0 +1,62 @@
+ghost use Rattle.std.specs.Prelude.{◌≡◌, ◌≢◌, ◌+◌, length, slice_index};
+ghost use Rattle.gf_core.specs.Field.{gf_mul, gf_sum};
+ghost use Rattle.gf_rows.specs.Rows.{add_scaled_row, scaled_row};
+
+use crate::halves::Halves;
+use crate::steps::Steps;
+use gf_core::Gf;
+use std::sync::ledger::Ledger;
+
+/// Adds `c` times each byte of `src` to the byte of `dst` at the same place. The two have one length.
+pub fn add_scaled(dst: &mut [u8], c: Gf, src: &[u8])
+    requires { length dst.old ≡ length src.now }
+    ensures { dst.new ≡ add_scaled_row dst.old c src.now }
+{
+    let products = Halves::of(c);
+    for i in 0..dst.len() {
+        dst[i] ^= products.times(src[i]);
+    }
+}
+
+/// Makes each byte `c` times itself. The factor isn't 0.
+pub fn scale_row(row: &mut [u8], c: Gf)
+    requires { c ≢ 0 }
+    ensures { row.new ≡ scaled_row c row.old }
+{
+    let products = Halves::of(c);
+    for byte in row.iter_mut() {
+        *byte = products.times(*byte);
+    }
+}
+
+/// Does what `add_scaled` does, and counts one step.
+pub fn axpy<L: Ledger>(dst: &mut [u8], c: Gf, src: &[u8], steps: &mut Steps<L>)
+    requires { length dst.old ≡ length src.now }
+    ensures row { dst.new ≡ add_scaled_row dst.old c src.now }
+    ensures counted { steps.new ≡ steps.old + 1 }
+{
+    add_scaled(dst, c, src);
+    steps.tick();
+}
+
+/// Does what `scale_row` does, and counts one step.
+pub fn scale<L: Ledger>(row: &mut [u8], c: Gf, steps: &mut Steps<L>)
+    requires { c ≢ 0 }
+    ensures row { row.new ≡ scaled_row c row.old }
+    ensures counted { steps.new ≡ steps.old + 1 }
+{
+    scale_row(row, c);
+    steps.tick();
+}
+
+/// The sum of the products of the bytes at each place. The two rows have one length.
+pub fn dot(a: &[u8], b: &[u8]) -> Gf
+    requires { length a.now ≡ length b.now }
+    ensures { result ≡ gf_sum (length a.now) (λ i. gf_mul (slice_index a.now i) (slice_index b.now i)) }
+{
+    let mut sum = Gf::ZERO;
+    for i in 0..a.len() {
+        sum = sum.add(Gf::new(a[i]).mul(Gf::new(b[i])));
+    }
+    sum
+}

@@ -1,0 +1,21 @@
+//! Operations on rows of bytes over GF(256), each byte an element: sums of multiples of rows, plans of such
+//! operations, and matrices. The definitions stand in specs/, and lemmas for the crates above in the files of
+//! proofs/ that proofs/Lib.antt marks `pub`.
+#![tactic(auto)]
+
+mod halves;
+mod inside;
+mod kernels;
+mod matrix;
+mod operation;
+mod plan;
+mod steps;
+
+pub use kernels::{add_scaled, axpy, dot, scale, scale_row};
+pub use matrix::Matrix;
+pub use operation::Op;
+pub use plan::Plan;
+pub use steps::Steps;
+
+#[cfg(test)]
+mod tests;
