@@ -2,8 +2,9 @@ ghost use Rattle.std.specs.Prelude.{◌≡◌, ◌≢◌, ℕ, ◌<◌, ◌≤�
 ghost use Rattle.bats_model.specs.Batch.{batch_of, degree_of};
 ghost use Rattle.bats_model.specs.Symbol.{symbol_byte};
 ghost use Rattle.bats_model.specs.Coded.{coded_payload, unit_vector};
+ghost use Rattle.bats_model.specs.Agreement.{Agrees};
 
-use crate::row::add_scaled;
+use crate::row::add_symbol;
 use bats_model::{Batch, Bytes, Packet, Session};
 use std::alloc::{AllocError, Global};
 use std::marker::Model;
@@ -54,7 +55,7 @@ impl Encoder {
     }
 
     /// Coded packet `j` of a batch, which has to be the session's batch of its number: its coefficient vector of M
-    /// bytes is 1 at place `j` and 0 elsewhere, and its payload has T bytes.
+    /// bytes is 1 at place `j` and 0 elsewhere, and its payload has T bytes. The file agrees with the packet.
     pub fn coded(&self, batch: &Batch, j: u32) -> Result<Packet, AllocError>
         requires of_session { batch.now ≡ batch_of self.now.session batch.now.number }
         requires column { j < self.now.session.m }
@@ -62,6 +63,7 @@ impl Encoder {
         ensures coefs { IfOk result (λ packet. packet.coefs ≡ unit_vector self.now.session.m j) }
         ensures payload { IfOk result (λ packet.
             packet.payload ≡ coded_payload self.now.session self.now.file batch.now j) }
+        ensures agrees { IfOk result (Agrees self.now.session self.now.file) }
     {
         let coefs = vector_of(self.alloc, self.session.m(), j)?;
         let payload = payload_of(self.alloc, &self.session, self.file.as_slice(), batch, j)?;
@@ -104,7 +106,7 @@ fn fill_payload(payload: &mut [u8], session: &Session, file: &[u8], batch: &Batc
 {
     for k in 0..batch.degree() {
         let symbol = symbol_of(session, file, batch.contributor(k));
-        add_scaled(payload, batch.entry(k, j), symbol);
+        add_symbol(payload, batch.entry(k, j), symbol);
     }
 }
 

@@ -1,2 +1,5 @@
 pub mod SystematicBatches
+pub mod RightAnswers
+pub mod UnitVectors
+pub mod PlainAgreement
 mod Examples

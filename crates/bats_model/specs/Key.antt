@@ -23,3 +23,7 @@ seeded_key seed first kind second =
 -- the key of a batch
 unfoldable pub batch_key : List ℕ → ℕ → List ℕ
 batch_key seed number = seeded_key seed number 0 0
+
+-- the key of an output of a relay, for a batch
+unfoldable pub relay_key : List ℕ → ℕ → ℕ → List ℕ
+relay_key seed batch output = seeded_key seed batch 1 output

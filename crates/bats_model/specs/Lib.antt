@@ -1,6 +1,10 @@
+pub mod Bytes
 pub mod Session
 pub mod Symbol
 pub mod Key
 pub mod DegreeTable
 pub mod Batch
 pub mod Coded
+pub mod Agreement
+pub mod RightAnswer
+pub mod Plain

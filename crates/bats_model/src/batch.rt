@@ -1,5 +1,6 @@
 ghost use Rattle.std.specs.Prelude.{◌≡◌, ◌*◌, ◌<◌};
 
+use crate::{Bytes, Nums};
 use gf_core::Gf;
 use std::marker::Model;
 
@@ -62,6 +63,25 @@ impl Batch {
             contributors,
             entries,
         }
+    }
+
+    /// The batch of `m` packets with these contributors and these entries of its generator. Row k, of contributor
+    /// k, is the bytes `k * m` to `k * m + m - 1` of `entries`.
+    pub fn new(m: u8, number: u32, contributors: Nums, entries: Bytes) -> Batch
+        requires { IsBatch (record {
+          number = number;
+          columns = m;
+          contributors = contributors;
+          entries = entries;
+        }) }
+        ensures { result ≡ record {
+          number = number;
+          columns = m;
+          contributors = contributors;
+          entries = entries;
+        } }
+    {
+        Batch::of_parts(number, m, contributors.into_vec(), entries.into_vec())
     }
 
     /// The number of the batch.

@@ -1,4 +1,5 @@
 ghost use Rattle.std.specs.Prelude.{◌≡◌, ◌↔◌, IsTrue, [], ◌∷◌, ◌++◌, length, IfOk, OnOk, OnErr};
+ghost use Rattle.bats_model.specs.Bytes.{AreBytes};
 
 use std::alloc::{AllocError, Global};
 use std::marker::Model;
@@ -11,10 +12,13 @@ pub struct Bytes {
 
 impl Model for Bytes {
     ghost use Rattle.std.specs.Prelude.{ℕ, List};
+    ghost use Rattle.bats_model.specs.Bytes.{AreBytes};
 
     ghost Value = { List ℕ };
 
     ghost view = { λ b. b.items.items };
+
+    ghost invariant = { λ b. AreBytes b.items.items };
 }
 
 impl Bytes {
@@ -61,9 +65,17 @@ impl Bytes {
 
     /// The bytes, lent.
     pub fn as_slice(&self) -> &[u8]
-        ensures { result.now ≡ self.now }
+        ensures value { result.now ≡ self.now }
+        ensures bytes { AreBytes self.now }
     {
         self.items.as_slice()
+    }
+
+    // The bytes, in the vector that held them.
+    pub(crate) fn into_vec(self) -> Vec<u8>
+        ensures { result.items ≡ self }
+    {
+        self.items
     }
 }
 

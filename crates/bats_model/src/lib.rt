@@ -2,14 +2,20 @@
 //! program is proved against (`specs/`).
 #![tactic(auto)]
 
+mod answer;
 mod batch;
 mod bytes;
+mod numbers;
 mod packet;
+mod plain;
 mod session;
 mod systematic;
 
+pub use answer::Answer;
 pub use batch::Batch;
 pub use bytes::Bytes;
+pub use numbers::Nums;
 pub use packet::Packet;
+pub use plain::{is_plain, is_zero, unit_place};
 pub use session::{BadSession, Session};
 pub use systematic::unit_batch;

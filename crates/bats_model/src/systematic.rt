@@ -58,7 +58,7 @@ pub fn unit_batch(
 #[cfg(test)]
 mod tests {
     use super::*;
-    use crate::{BadSession, Bytes};
+    use crate::{BadSession, Bytes, Nums};
     use std::test::Fail;
 
     fn session(m: u8, length: u64, systematic: bool) -> Result<Session, BadSession> {
@@ -96,6 +96,21 @@ mod tests {
         assert_eq!(rt; bytes.len(), 1);
         let copy = Bytes::copy_of(rt.alloc(), b"abc")?;
         assert_eq!(rt; copy.as_slice(), b"abc".as_slice());
+        Ok(())
+    }
+
+    #[test]
+    fn batch_of_its_parts(rt: HostRuntime) -> Result<(), Fail> {
+        let mut contributors = Nums::new(rt.alloc());
+        contributors.push(7)?;
+        assert_eq!(rt; contributors.len(), 1);
+        assert_eq!(rt; contributors.as_slice(), [7].as_slice());
+        let entries = Bytes::copy_of(rt.alloc(), &[3, 4])?;
+        let batch = Batch::new(2, 5, contributors, entries);
+        assert_eq!(rt; batch.number(), 5);
+        assert_eq!(rt; batch.degree(), 1);
+        assert_eq!(rt; batch.contributor(0), 7);
+        assert_eq!(rt; batch.entry(0, 1).byte(), 4);
         Ok(())
     }
 }

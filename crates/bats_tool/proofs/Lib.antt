@@ -1,7 +1,6 @@
 pub mod Writing
 pub mod Ranges
 pub mod Loops
-pub mod Sampled
 pub mod Reading
 pub mod Endings
 pub mod Counts

@@ -136,10 +136,6 @@ refused command x y o n m stops.Symbols status _ r q a =
     let e = ending_of command q.file in
     cause e x y o n m stops.Symbols status (so_far-refused e x y stops.Symbols a) (inl (sym (ap (λ (z : Ending). z.line) a.refused)))
     (λ f p. (sym (ap (λ (z : Ending). z.status) a.refused), finishes e x y o n m stops.Symbols a f p)) r
-refused command x y o n m stops.NotBuilt status _ r q a =
-    let e = ending_of command q.file in
-    cause e x y o n m stops.NotBuilt status (so_far-refused e x y stops.NotBuilt a) (inl (sym (ap (λ (z : Ending). z.line) a.refused)))
-    (λ f p. (sym (ap (λ (z : Ending). z.status) a.refused), finishes e x y o n m stops.NotBuilt a f p)) r
 refused command x y o n m stops.ReadFault status _ r q a =
     let e = ending_of command q.file in
     let none : AppendsPrefix x.output.written y.output.written e.output =

@@ -1,5 +1,5 @@
 -- The reading and the judging of a file.
-use Rattle.std.proofs.Common.{ℕ, ◌≡◌, ◌+◌, ◌*◌, ◌<◌, ◌≤◌, true, false, List, [], ◌++◌, length, Option, None, Some, Result, Err, Vec, Global, refl, sym, ap, ◌∙◌, subst, arith, append-nil, length-append}
+use Rattle.std.proofs.Common.{ℕ, ◌≡◌, ◌+◌, ◌*◌, ◌<◌, ◌≤◌, List, [], ◌++◌, length, Option, None, Some, Result, Err, Vec, Global, refl, sym, ap, ◌∙◌, subst, arith, append-nil, length-append}
 use Rattle.std.specs.Result.{IsErrAnd}
 use Rattle.std.proofs.lemmas.Result.{err_from_is_err_and}
 use Rattle.bats_model.specs.Session.{SessionData, symbols_of}
@@ -7,13 +7,12 @@ use Rattle.bats_tool.specs.declared.source.SourceOptions.{SourceOptions}
 use Rattle.bats_tool.specs.declared.stop.Stop.{Stop}
 use Rattle.bats_tool.specs.declared.stop.Stop.TheVariants as stops
 use Rattle.bats_tool.specs.Options.{session_for}
-use Rattle.bats_tool.specs.Source.{asks_for_sampled}
 use Rattle.bats_tool.specs.Streams.{InputState, IsFile, IsRead, IsEnded, ReadsAtMost}
 use Rattle.bats_tool.specs.Reads.{Reads, ReadsUpTo}
 use Rattle.bats_tool.specs.Ending.{refusal, most_read, source_ending}
 use Rattle.bats_tool.specs.Attempt.{Prepares, IsReady, StopsReading}
 use Rattle.bats_tool.proofs.Counts.{length-within, length-beyond, symbols-beyond}
-use Rattle.bats_tool.proofs.Endings.{most-source_ending, status-source_ending, source_ending-too_long, source_ending-not_built}
+use Rattle.bats_tool.proofs.Endings.{most-source_ending, status-source_ending, source_ending-too_long}
 
 -- the file that an input tells, or these bytes where it tells none
 pub told_or : Option (List ℕ) → List ℕ → List ℕ
@@ -65,7 +64,6 @@ failed o a b stops.Memory q = record {
 }
 failed o a b stops.Usage q = absurd q
 failed o a b stops.Symbols q = absurd q
-failed o a b stops.NotBuilt q = absurd q
 failed o a b stops.WriteFault q = absurd q
 
 -- a `?` that passes on what the reading of the file answered
@@ -96,32 +94,17 @@ Prepares-too_long o a b file e r pos q long is_symbols is =
     subst (λ (s : Result (SessionData × Vec ℕ Global) Stop). Prepares o a b s) (sym w.1)
     (subst (λ (s : Stop). StopsReading s o a b) (sym (w.2 ∙ is_symbols)) stops)
 
--- a batch is asked for that isn't systematic
-pub StopsReading-not_built : (o : SourceOptions) (a b : InputState) (file : List ℕ)
-    → 0 < o.t → ReadsUpTo a b (4096 * o.t) file → symbols_of (session_for o (length file)) ≤ 4096
-    → asks_for_sampled (session_for o (length file)) o.first o.batches ≡ true → StopsReading stops.NotBuilt o a b
-StopsReading-not_built o a b file pos q short asked =
-    let ended = q.end (length-within (length file) o.t 4096 pos short) in
-    let ends = source_ending-not_built o file short asked in
-    record {
-      file = file;
-      told = IsFile-read a.left b.left file q.read ended;
-      read = allowed o file a.left b.left (4096 * o.t + 1) (record { bytes = file; read = q.read; within = q.within }) (omega arith);
-      cause = (ends ∙ ap (λ (n : ℕ). refusal n stops.NotBuilt) (sym (most-source_ending o file)), ended, q.no_fault);
-    }
-
 -- all is ready
 pub IsReady-read : (o : SourceOptions) (a b : InputState) (file : List ℕ) (session : SessionData)
     → 0 < o.t → ReadsUpTo a b (4096 * o.t) file → symbols_of (session_for o (length file)) ≤ 4096
-    → asks_for_sampled (session_for o (length file)) o.first o.batches ≡ false → session ≡ session_for o (length file)
+    → session ≡ session_for o (length file)
     → IsReady o a b session file
-IsReady-read o a b file session pos q short asked is =
+IsReady-read o a b file session pos q short is =
     let ended = q.end (length-within (length file) o.t 4096 pos short) in
     record {
       told = IsFile-read a.left b.left file q.read ended;
       read = allowed o file a.left b.left (4096 * o.t + 1) (record { bytes = file; read = q.read; within = q.within }) (omega arith);
       symbols = short;
-      systematic = asked;
       end = ended;
       no_fault = q.no_fault;
       session_is = is;

@@ -54,7 +54,6 @@ as_far a b c most room file file' stops.Memory p f h k q =
     record { no_fault = q.no_fault ∙ f; read = ReadsAtMost-after a.left b.left c.left file room (most + 1) p q.read (omega arith) }
 as_far a b c most room file file' stops.Usage p f h k q = q
 as_far a b c most room file file' stops.Symbols p f h k q = q
-as_far a b c most room file file' stops.NotBuilt p f h k q = q
 as_far a b c most room file file' stops.WriteFault p f h k q = q
 
 -- what a `?` returns that passes that on

@@ -20,13 +20,9 @@ use Rattle.bats_tool.proofs.Writing.{AppendsPrefix-none, Writes-same}
 HasRead-symbols : (s : Ending) (a b : Option (List ℕ)) → s ≡ refusal s.most stops.Symbols → HasRead s.status a b
 HasRead-symbols s a b e = subst (λ (x : Ending). HasRead x.status a b) (sym e) tt
 
-HasRead-not_built : (s : Ending) (a b : Option (List ℕ)) → s ≡ refusal s.most stops.NotBuilt → IsEnded b → HasRead s.status a b
-HasRead-not_built s a b e h = subst (λ (x : Ending). HasRead x.status a b) (sym e) h
-
 stopped : (stop : Stop) (s : Ending) (a b : InputState) (o : OutputState) → IsCause stop s a b
     → AttemptsAs s (record { input = a; output = o }) (record { input = b; output = o }) (Err stop)
 stopped stops.Symbols s a b o c = record { refused = c.0; input = HasRead-symbols s a.left b.left c.0; input_fault = c.1; output = record { written = refl; faults = refl } }
-stopped stops.NotBuilt s a b o c = record { refused = c.0; input = HasRead-not_built s a.left b.left c.0 c.1; input_fault = c.2; output = record { written = refl; faults = refl } }
 stopped stops.ReadFault s a b o c = record { command = c.0; input_fault = c.1; output = record { written = refl; faults = refl } }
 stopped stops.Memory s a b o c = record { input_fault = c; output = record { as_far = (AppendsPrefix-none o.written s.output, refl) } }
 stopped stops.Usage s a b o c = absurd c
@@ -48,7 +44,7 @@ output_of_ready : (o : SourceOptions) (a b : InputState) (session : SessionData)
     → (source_ending o bytes).output ≡ source_output session bytes o.first o.batches
 unfolding done_ending
 output_of_ready o a b session bytes q =
-    ap (λ (e : Ending). e.output) (source_ending-done o bytes q.symbols q.systematic)
+    ap (λ (e : Ending). e.output) (source_ending-done o bytes q.symbols)
     ∙ ap (λ (s : SessionData). source_output s bytes o.first o.batches) (sym q.session_is)
 
 line_of_ready : (o : SourceOptions) (a b : InputState) (session : SessionData) (bytes : List ℕ) → IsReady o a b session bytes
@@ -56,12 +52,12 @@ line_of_ready : (o : SourceOptions) (a b : InputState) (session : SessionData) (
 unfolding done_ending
 line_of_ready o a b session bytes q =
     ap (λ (s : SessionData). source_line s o.batches) q.session_is
-    ∙ sym (ap (λ (e : Ending). e.line) (source_ending-done o bytes q.symbols q.systematic))
+    ∙ sym (ap (λ (e : Ending). e.line) (source_ending-done o bytes q.symbols))
 
 status_of_ready : (o : SourceOptions) (a b : InputState) (session : SessionData) (bytes : List ℕ) → IsReady o a b session bytes
     → (source_ending o bytes).status ≡ statuses.Done
 unfolding done_ending
-status_of_ready o a b session bytes q = ap (λ (e : Ending). e.status) (source_ending-done o bytes q.symbols q.systematic)
+status_of_ready o a b session bytes q = ap (λ (e : Ending). e.status) (source_ending-done o bytes q.symbols)
 
 cut_short : (s : Ending) (a b : InputState) (x y : OutputState) (e : Stop) → b.faults ≡ a.faults
     → Writes x.written y.written x.faults y.faults s.output (Some e)
@@ -70,7 +66,6 @@ cut_short s a b x y stops.WriteFault f w = record { output = w }
 cut_short s a b x y stops.Memory f w = record { input_fault = f; output = w }
 cut_short s a b x y stops.Usage f w = absurd w.as_far
 cut_short s a b x y stops.Symbols f w = absurd w.as_far
-cut_short s a b x y stops.NotBuilt f w = absurd w.as_far
 cut_short s a b x y stops.ReadFault f w = absurd w.as_far
 
 -- a `?` that passes on a write that failed, or want of memory

@@ -44,7 +44,6 @@ as_far-after a b c f g h xs ys (Some stops.WriteFault) p q = (AppendsPrefix-afte
 as_far-after a b c f g h xs ys (Some stops.Memory) p q = (AppendsPrefix-after a b c xs ys p.0 q.0, q.1 ∙ p.1)
 as_far-after a b c f g h xs ys (Some stops.Usage) p q = q
 as_far-after a b c f g h xs ys (Some stops.Symbols) p q = q
-as_far-after a b c f g h xs ys (Some stops.NotBuilt) p q = q
 as_far-after a b c f g h xs ys (Some stops.ReadFault) p q = q
 
 as_far-longer : (a b : Option (List ℕ)) (f g : ℕ) (xs ys : List ℕ) (e : Stop)
@@ -53,7 +52,6 @@ as_far-longer a b f g xs ys stops.WriteFault p = (AppendsPrefix-longer a b xs ys
 as_far-longer a b f g xs ys stops.Memory p = (AppendsPrefix-longer a b xs ys p.0, p.1)
 as_far-longer a b f g xs ys stops.Usage p = p
 as_far-longer a b f g xs ys stops.Symbols p = p
-as_far-longer a b f g xs ys stops.NotBuilt p = p
 as_far-longer a b f g xs ys stops.ReadFault p = p
 
 -- nothing was written

@@ -1,9 +1,8 @@
 -- What a command leaves of input and output, before anything is said on the notes.
-use Rattle.std.specs.Prelude.{◌≡◌, ◌≢◌, ◌≤◌, ℕ, true, false, List, String, Vec, string_bytes, length, Option, None, Some, Result, Ok, Err}
+use Rattle.std.specs.Prelude.{◌≡◌, ◌≢◌, ◌≤◌, ℕ, true, List, String, Vec, string_bytes, length, Option, None, Some, Result, Ok, Err}
 use Rattle.std.specs.Global.{Global}
 use Rattle.bats_io.specs.Faults.{Rose}
 use Rattle.bats_model.specs.Session.{SessionData, symbols_of}
-use Rattle.bats_tool.specs.Source.{asks_for_sampled}
 use Rattle.bats_tool.specs.Options.{session_for}
 use Rattle.bats_tool.specs.declared.command.Command.{Command}
 use Rattle.bats_tool.specs.declared.source.SourceOptions.{SourceOptions}
@@ -69,12 +68,11 @@ pub record Attempts (command : Option Command) (before after : Ends) (result : R
   pub read : ReadsAtMost before.input.left after.input.left (ending_of command file).most
   pub as_far : AttemptsAs (ending_of command file) before after result
 
--- the file and its session are ready, and each batch asked for is systematic
+-- the file and its session are ready
 pub record IsReady (options : SourceOptions) (before after : InputState) (session : SessionData) (bytes : List ℕ) : Type 0 where
   pub told : IsFile before.left bytes
   pub read : ReadsAtMost before.left after.left (source_ending options bytes).most
   pub symbols : symbols_of (session_for options (length bytes)) ≤ 4096
-  pub systematic : asks_for_sampled (session_for options (length bytes)) options.first options.batches ≡ false
   pub end : IsEnded after.left
   pub no_fault : after.faults ≡ before.faults
   pub session_is : session ≡ session_for options (length bytes)
@@ -82,8 +80,6 @@ pub record IsReady (options : SourceOptions) (before after : InputState) (sessio
 -- what a cause says of the ending and of the input
 abbrev pub IsCause : Stop → Ending → InputState → InputState → Type 0
 IsCause stops.Symbols ending before after = (ending ≡ refusal ending.most stops.Symbols) × (after.faults ≡ before.faults)
-IsCause stops.NotBuilt ending before after =
-    (ending ≡ refusal ending.most stops.NotBuilt) × IsEnded after.left × (after.faults ≡ before.faults)
 IsCause stops.ReadFault ending before after = (ending.status ≢ statuses.Usage) × Rose before.faults after.faults
 IsCause stops.Memory ending before after = after.faults ≡ before.faults
 IsCause _ ending before after = ⊥

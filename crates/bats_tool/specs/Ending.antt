@@ -10,14 +10,13 @@ use Rattle.bats_tool.specs.declared.stop.Stop.{Stop}
 use Rattle.bats_tool.specs.declared.stop.Stop.TheVariants as stops
 use Rattle.bats_tool.specs.declared.source.SourceOptions.{SourceOptions}
 use Rattle.bats_tool.specs.Options.{session_for, options_of}
-use Rattle.bats_tool.specs.Source.{source_output, source_line, asks_for_sampled}
+use Rattle.bats_tool.specs.Source.{source_output, source_line}
 use Rattle.bats_tool.specs.Streams.{Streams, OutputState, IsFile, IsEnded, ReadsAtMost}
 
 -- the status of a run that stops for this cause
 abbrev pub status_of : Stop → Status
 status_of stops.Usage = statuses.Usage
 status_of stops.Symbols = statuses.Limit
-status_of stops.NotBuilt = statuses.NotBuilt
 status_of stops.ReadFault = statuses.ReadFault
 status_of stops.WriteFault = statuses.WriteFault
 status_of stops.Memory = statuses.Memory
@@ -26,7 +25,6 @@ status_of stops.Memory = statuses.Memory
 abbrev pub line_of : Stop → List ℕ
 line_of stops.Usage = codes "bats: usage\n"
 line_of stops.Symbols = codes "bats: limit symbols\n"
-line_of stops.NotBuilt = codes "bats: not built\n"
 line_of stops.ReadFault = codes "bats: read fault\n"
 line_of stops.WriteFault = codes "bats: write fault\n"
 line_of stops.Memory = codes "bats: out of memory\n"
@@ -52,7 +50,6 @@ unfoldable pub source_ending : SourceOptions → List ℕ → Ending
 source_ending options file =
     let session = session_for options (length file) in
     if nat_lt 4096 (symbols_of session) then refusal (most_read options) stops.Symbols
-    else if asks_for_sampled session options.first options.batches then refusal (most_read options) stops.NotBuilt
     else record {
       most = most_read options;
       status = statuses.Done;

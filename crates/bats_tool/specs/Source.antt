@@ -1,9 +1,9 @@
 -- What `source` writes.
-use Rattle.std.specs.Prelude.{ℕ, ◌*◌, Bool, not, List, ◌++◌, codes, flat_map}
-use Rattle.std.specs.List.{range_with_len, list_any}
+use Rattle.std.specs.Prelude.{ℕ, ◌*◌, List, ◌++◌, codes, flat_map}
+use Rattle.std.specs.List.{range_with_len}
 use Rattle.std.specs.Fmt.{decimal}
 use Rattle.bats_model.specs.Session.{SessionData, symbols_of}
-use Rattle.bats_model.specs.Batch.{batch_of, is_systematic_batch}
+use Rattle.bats_model.specs.Batch.{batch_of}
 use Rattle.bats_model.specs.Coded.{coded_payload, unit_vector}
 use Rattle.bats_tool.specs.Records.{header_record, packet_record}
 
@@ -34,8 +34,3 @@ counts_line file_length symbols batches packets =
 unfoldable pub source_line : SessionData → ℕ → List ℕ
 source_line session batches =
     counts_line session.file_length (symbols_of session) batches (batches * session.m)
-
--- some batch asked for is no systematic one
-unfoldable pub asks_for_sampled : SessionData → ℕ → ℕ → Bool
-asks_for_sampled session first batches =
-    list_any (λ number. not (is_systematic_batch session number)) (range_with_len first batches)

@@ -1,8 +1,8 @@
-ghost use Rattle.std.specs.Prelude.{◌≡◌, ◌+◌, ◌^◌, ◌<◌, ◌≤◌, string_bytes, true, false, ◌↔◌, IfOk, OnOk, IfErr, OnErr, IsErrOf, ℕ, not, Some};
+ghost use Rattle.std.specs.Prelude.{◌≡◌, ◌+◌, ◌^◌, ◌<◌, ◌≤◌, string_bytes, true, IfOk, OnOk, IfErr, OnErr};
 ghost use Rattle.std.specs.Result.{result_err};
 ghost use Rattle.bats_model.specs.Session.{symbols_of};
-ghost use Rattle.bats_model.specs.Batch.{batch_of, is_systematic_batch};
-ghost use Rattle.bats_tool.specs.Source.{coded_record, batch_records, packet_records, source_output, source_line, counts_line, asks_for_sampled};
+ghost use Rattle.bats_model.specs.Batch.{batch_of};
+ghost use Rattle.bats_tool.specs.Source.{coded_record, batch_records, packet_records, source_output, source_line, counts_line};
 ghost use Rattle.bats_tool.specs.Options.{HasRanges, session_for};
 ghost use Rattle.bats_tool.specs.Writes.{Writes};
 ghost use Rattle.bats_tool.specs.Attempt.{Sources, Prepares};
@@ -12,7 +12,8 @@ use crate::records::{write_header, write_packet};
 use crate::stop::Stop;
 use bats_encoder::Encoder;
 use bats_io::{Sink, Source};
-use bats_model::{Batch, Bytes, Session, unit_batch};
+use bats_model::{Batch, Bytes, Session};
+use bats_sampler::batch;
 use std::alloc::{AllocError, Global};
 
 // Symbols of a file, at most.
@@ -65,7 +66,7 @@ fn write_batch<O: Sink>(
     Ok(())
 }
 
-// Writes the records of the systematic batch of this number.
+// Writes the records of the batch of this number.
 fn write_numbered<O: Sink>(
     alloc: Global,
     output: &mut O,
@@ -74,35 +75,11 @@ fn write_numbered<O: Sink>(
     number: u32,
 ) -> Result<(), Stop>
     requires session { encoder.now.session ≡ session.now }
-    requires systematic { is_systematic_batch encoder.now.session number ≡ true }
     ensures { Writes (O.written output.old) (O.written output.new) (O.faults output.old) (O.faults output.new)
         (batch_records encoder.now.session encoder.now.file number) (result_err result) }
 {
-    match unit_batch(alloc, session, number)? {
-        Some(batch) => write_batch(output, session, encoder, &batch),
-        None => unreachable!(),
-    }
-}
-
-// Whether the batch of this number is systematic.
-fn is_systematic(session: &Session, number: u32) -> bool
-    ensures { result ≡ is_systematic_batch session.now number }
-{
-    let start = u64::from(number) * u64::from(session.m());
-    session.systematic() && start < u64::from(session.symbols())
-}
-
-// Whether each batch asked for is systematic.
-fn all_systematic(session: &Session, first: u32, batches: u32) -> bool
-    requires { first + batches < 2 ^ 32 }
-    ensures { asks_for_sampled session.now first batches ≡ not result }
-{
-    for i in 0..batches {
-        if !is_systematic(session, first + i) {
-            return false;
-        }
-    }
-    true
+    let batch = batch(alloc, session, number)?;
+    write_batch(output, session, encoder, &batch)
 }
 
 // Writes the records of the batches asked for, batches rising.
@@ -116,7 +93,6 @@ fn write_batches<O: Sink>(
 ) -> Result<(), Stop>
     requires session { encoder.now.session ≡ session.now }
     requires count { first + batches < 2 ^ 32 }
-    requires systematic { asks_for_sampled encoder.now.session first batches ≡ false }
     ensures { Writes (O.written output.old) (O.written output.new) (O.faults output.old) (O.faults output.new)
         (packet_records encoder.now.session encoder.now.file first batches) (result_err result) }
 {
@@ -137,7 +113,6 @@ fn write_output<O: Sink>(
 ) -> Result<(), Stop>
     requires session { encoder.now.session ≡ session.now }
     requires count { first + batches < 2 ^ 32 }
-    requires systematic { asks_for_sampled encoder.now.session first batches ≡ false }
     ensures written { Writes (O.written output.old) (O.written output.new) (O.faults output.old) (O.faults output.new)
         (source_output encoder.now.session encoder.now.file first batches) (result_err result) }
     ensures flushed { OnOk result (O.flushed output.new ≡ true) }
@@ -196,7 +171,7 @@ fn session_of(options: &SourceOptions, length: usize) -> Result<Session, Stop>
     }
 }
 
-// The file and its session, where each batch asked for is systematic.
+// The file and its session.
 fn read_session<S: Source>(
     alloc: Global,
     options: &SourceOptions,
@@ -210,9 +185,6 @@ fn read_session<S: Source>(
 {
     let file = read_file(alloc, input, MAX_SYMBOLS * options.t as usize)?;
     let session = session_of(options, file.len())?;
-    if !all_systematic(&session, options.first, options.batches) {
-        return Err(Stop::NotBuilt);
-    }
     Ok((session, file))
 }
 

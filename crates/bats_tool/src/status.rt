@@ -16,8 +16,6 @@ pub enum Status {
     WriteFault = 7,
     /// Memory ran out.
     Memory = 8,
-    /// A batch is asked for that is not systematic, which is not built yet.
-    NotBuilt = 10,
 }
 
 impl Status {

@@ -12,8 +12,6 @@ pub enum Stop {
     Usage,
     /// The file has more than 4,096 symbols.
     Symbols,
-    /// A batch is asked for that is not systematic.
-    NotBuilt,
     /// A read of the input failed.
     ReadFault,
     /// A write or a flush failed.
@@ -38,7 +36,6 @@ impl Stop {
         match self {
             Stop::Usage => Status::Usage,
             Stop::Symbols => Status::Limit,
-            Stop::NotBuilt => Status::NotBuilt,
             Stop::ReadFault => Status::ReadFault,
             Stop::WriteFault => Status::WriteFault,
             Stop::Memory => Status::Memory,
@@ -52,7 +49,6 @@ impl Stop {
         match self {
             Stop::Usage => "bats: usage\n",
             Stop::Symbols => "bats: limit symbols\n",
-            Stop::NotBuilt => "bats: not built\n",
             Stop::ReadFault => "bats: read fault\n",
             Stop::WriteFault => "bats: write fault\n",
             Stop::Memory => "bats: out of memory\n",

@@ -18,6 +18,12 @@ const SMALL_OUTPUT: [u8; 50] = [
     0x03, 0x04,
 ];
 
+// The header and the two packets of the file 01 07 01 00 02, whose one batch mixes symbols 2, 4, 0 and 3.
+const SAMPLED_OUTPUT: [u8; 48] = [
+    0x42, 0x54, 0x53, 0x01, 0x02, 0x01, 0x00, 0x01, 0, 0, 0, 0, 0, 0, 0, 5, 0, 0, 0, 0, 0, 0, 0, 0,
+    0, 0, 0, 0, 0, 0, 0, 0, 0x50, 0, 0, 0, 0, 0x01, 0x00, 0xCF, 0x50, 0, 0, 0, 0, 0x00, 0x01, 0x8F,
+];
+
 const SMALL_LINE: &str = "source: length=4 symbols=2 batches=1 packets=2\n";
 
 // What a run left.
@@ -109,17 +115,15 @@ fn refuses_a_file_of_too_many_symbols(rt: HostRuntime) -> Result<(), Fail> {
 }
 
 #[test]
-fn says_what_is_not_built(rt: HostRuntime) -> Result<(), Fail> {
-    for line in [
-        "source --m 2 --t 2 --seed 00000000000000000000000000000000 --batches 1",
-        "source --m 2 --t 2 --seed 00000000000000000000000000000000 --batches 2 --systematic",
-        "source --from 1 --m 2 --t 2 --seed 00000000000000000000000000000000 --batches 1 --systematic",
-    ] {
-        let run = make_run(&rt, line, &[1, 2, 3, 4], 1000, [0, 0, 0])?;
-        assert_eq!(rt; run.status, Status::NotBuilt, "at {line}");
-        assert!(rt; run.output.written().is_empty());
-        assert_eq!(rt; run.notes.written(), b"bats: not built\n".as_slice());
-    }
+fn sends_a_sampled_batch(rt: HostRuntime) -> Result<(), Fail> {
+    let line = "source --m 2 --t 1 --seed 00000000000000000000000000000000 --batches 1 --table 1";
+    let run = make_run(&rt, line, &[1, 7, 1, 0, 2], 1000, [0, 0, 0])?;
+    assert_eq!(rt; run.status, Status::Done);
+    assert_eq!(rt; run.output.written(), SAMPLED_OUTPUT.as_slice());
+    assert_eq!(rt;
+        run.notes.written(),
+        b"source: length=5 symbols=5 batches=1 packets=2\n".as_slice()
+    );
     Ok(())
 }
 

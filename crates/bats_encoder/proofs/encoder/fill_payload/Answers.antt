@@ -4,6 +4,7 @@ use Rattle.gf_core.specs.Field.{gf_add, gf_mul, gf_sum}
 use Rattle.bats_model.specs.Batch.{entry_of, contributor_of}
 use Rattle.bats_model.specs.Symbol.{symbol_byte}
 use Rattle.bats_model.specs.Coded.{coded_byte, coded_payload, coded_term}
+use Rattle.gf_rows.proofs.RowLemmas.{get_or-add_scaled_row}
 use Rattle.bats_encoder.proofs.encoder.fill_payload.Goals as goal
 
 pub loop-k-init : goal.loop-k-init
@@ -20,7 +21,8 @@ loop-k-preserved c i h =
     ≡ symbol_byte c.args.session.now c.args.file.now (contributor_of c.args.batch.now c.loop-k.k) i =
     c.symbol_of-symbol.ensures.bytes i h
     ∙ ap (λ s. symbol_byte c.args.session.now c.args.file.now s i) c.contributor.ensures in
-    c.add_scaled.ensures i inside
+    ap (λ row. get_or row i 0) c.add_symbol.ensures
+    ∙ get_or-add_scaled_row c.loop-k.payload c.entry.result c.symbol_of-symbol.result.now i inside
     ∙ ap (λ x. gf_add x (gf_mul c.entry.result (get_or c.symbol_of-symbol.result.now i 0))) (c.loop-k.invariant i h)
     ∙ ap (λ x. gf_add (gf_sum c.loop-k.k term) (gf_mul x (get_or c.symbol_of-symbol.result.now i 0))) c.entry.ensures
     ∙ ap (λ x. gf_add (gf_sum c.loop-k.k term) (gf_mul (entry_of c.args.batch.now c.loop-k.k c.args.j) x)) byte

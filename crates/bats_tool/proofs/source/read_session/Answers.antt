@@ -1,8 +1,7 @@
-use Rattle.std.proofs.Common.{◌≡◌, ◌<◌, ◌≤◌, ◌∙◌, sym, ap, subst, ℕ, length, not, true, false, arith}
-use Rattle.bats_model.specs.Session.{SessionData, symbols_of}
+use Rattle.std.proofs.Common.{◌≡◌, ◌<◌, ◌≤◌, ◌∙◌, ap, subst, ℕ, length, arith}
+use Rattle.bats_model.specs.Session.{symbols_of}
 use Rattle.bats_tool.specs.Options.{session_for}
-use Rattle.bats_tool.specs.Source.{asks_for_sampled}
-use Rattle.bats_tool.proofs.Preparing.{Prepares-failed, Prepares-too_long, StopsReading-not_built, IsReady-read}
+use Rattle.bats_tool.proofs.Preparing.{Prepares-failed, Prepares-too_long, IsReady-read}
 use Rattle.bats_tool.proofs.source.read_session.Goals as goal
 
 pub returns-in_err-file : goal.returns-in_err-file
@@ -23,22 +22,6 @@ returns-in_err-session g c =
     c.in_ok-file.file.items c.in_err-session.field-0.0 c.from_residual-in_err-session.result
     (omega arith) c.in_ok-file.ensures counted c.in_err-session.ensures.no_other c.from_residual-in_err-session.ensures.1
 
-pub returns-then-not-all_systematic : goal.returns-then-not-all_systematic
-returns-then-not-all_systematic g c =
-    let size : c.len.result ≡ length c.in_ok-file.file.items = omega arith in
-    let o = c.args.options.now in
-    let file = c.in_ok-file.file.items in
-    let counted : symbols_of (session_for o (length file)) ≤ 4096 =
-    subst (λ (n : ℕ). symbols_of (session_for o n) ≤ 4096) size c.in_ok-session.ensures.within in
-    let session : c.in_ok-session.session ≡ session_for o (length file) =
-    c.in_ok-session.ensures.ok ∙ ap (session_for o) size in
-    let asked : asks_for_sampled (session_for o (length file)) o.first o.batches ≡ true =
-    ap (λ (s : SessionData). asks_for_sampled s o.first o.batches) (sym session) ∙ c.all_systematic.ensures ∙ ap not c.if-not-all_systematic.true in
-    StopsReading-not_built o
-    (record { left = g.S.Source.left c.args.input.now; faults = g.S.Source.faults c.args.input.now })
-    (record { left = g.S.Source.left c.read_file.new.input; faults = g.S.Source.faults c.read_file.new.input })
-    file (omega arith) c.in_ok-file.ensures counted asked
-
 pub returns : goal.returns
 returns g c =
     let size : c.len.result ≡ length c.in_ok-file.file.items = omega arith in
@@ -48,9 +31,7 @@ returns g c =
     subst (λ (n : ℕ). symbols_of (session_for o n) ≤ 4096) size c.in_ok-session.ensures.within in
     let session : c.in_ok-session.session ≡ session_for o (length file) =
     c.in_ok-session.ensures.ok ∙ ap (session_for o) size in
-    let asked : asks_for_sampled (session_for o (length file)) o.first o.batches ≡ false =
-    ap (λ (s : SessionData). asks_for_sampled s o.first o.batches) (sym session) ∙ c.all_systematic.ensures ∙ ap not c.if-not-all_systematic.false in
     IsReady-read o
     (record { left = g.S.Source.left c.args.input.now; faults = g.S.Source.faults c.args.input.now })
     (record { left = g.S.Source.left c.read_file.new.input; faults = g.S.Source.faults c.read_file.new.input })
-    file c.in_ok-session.session (omega arith) c.in_ok-file.ensures counted asked session
+    file c.in_ok-session.session (omega arith) c.in_ok-file.ensures counted session

@@ -1,17 +1,10 @@
 use Rattle.std.proofs.Common.{◌≡◌, ◌∙◌, ap, sym, ℕ, List}
 use Rattle.bats_model.specs.Session.{SessionData}
 use Rattle.bats_encoder.specs.Encoder.{EncoderData}
-use Rattle.bats_tool.specs.Source.{asks_for_sampled, source_output}
+use Rattle.bats_tool.specs.Source.{source_output}
 use Rattle.bats_tool.proofs.Writing.{Writes-same}
 use Rattle.bats_tool.proofs.Sourcing.{Sources-cut_short, Sources-done}
 use Rattle.bats_tool.proofs.source.source.Goals as goal
-
-pub write_output-requires-clause-systematic : goal.write_output-requires-clause-systematic
-write_output-requires-clause-systematic g c =
-    let o = c.args.options.now in
-    let encoded : c.in-Ok.encoder.session ≡ c.in_ok-session.session = ap (λ (e : EncoderData). e.session) c.in-Ok.ensures.ok in
-    ap (λ (s : SessionData). asks_for_sampled s o.first o.batches) (encoded ∙ c.in_ok-session.ensures.session_is)
-    ∙ c.in_ok-session.ensures.systematic
 
 pub returns-in_err-write_output-in-Ok : goal.returns-in_err-write_output-in-Ok
 returns-in_err-write_output-in-Ok g c =

@@ -3,12 +3,7 @@ use Rattle.std.specs.List.{range_with_len}
 use Rattle.bats_tool.specs.Source.{batch_records, packet_records}
 use Rattle.bats_tool.proofs.Writing.{Writes-same}
 use Rattle.bats_tool.proofs.Loops.{Writes-more, Writes-failed}
-use Rattle.bats_tool.proofs.Sampled.{is_systematic_batch-asked}
 use Rattle.bats_tool.proofs.source.write_batches.Goals as goal
-
-pub write_numbered-requires-clause-systematic : goal.write_numbered-requires-clause-systematic
-write_numbered-requires-clause-systematic g c =
-    is_systematic_batch-asked c.args.encoder.now.session c.args.first c.args.batches c.loop-i.i c.requires.systematic (omega arith)
 
 pub loop-i-preserved : goal.loop-i-preserved
 loop-i-preserved g c =

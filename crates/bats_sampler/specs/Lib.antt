@@ -1,0 +1,2 @@
+pub mod Contributors
+pub mod Words

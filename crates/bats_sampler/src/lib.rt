@@ -1,0 +1,15 @@
+//! The sampler: the batch of each number, whose degree, contributors and generator are drawn from the words of the
+//! batch's key.
+#![tactic(auto)]
+
+mod contributors;
+mod degree;
+mod key;
+mod mix;
+mod sampler;
+
+pub use mix::mix_bytes;
+pub use sampler::batch;
+
+#[cfg(test)]
+mod tests;
