@@ -1,2 +1,4 @@
 pub mod Solving
 pub mod Receiving
+pub mod Places
+pub mod KeptPackets

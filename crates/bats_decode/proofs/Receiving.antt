@@ -1,5 +1,5 @@
 -- What a decoder holds after a packet.
-use Rattle.std.proofs.Common.{ℕ, ◌≡◌, ◌≢◌, ◌<◌, ◌≤◌, ◌+◌, ◌-◌, ◌*◌, ◌^◌, ◌∙◌, ◌↔◌, ◌⊎◌, ◌++◌, ◌∷◌, [], sym, ap, refl, Bool, true, false, List, All, length, get_or, take, drop, min, cond, inl, inr, arith, subst}
+use Rattle.std.proofs.Common.{rules, ℕ, ◌≡◌, ◌≢◌, ◌<◌, ◌≤◌, ◌+◌, ◌-◌, ◌*◌, ◌^◌, ◌∙◌, ◌↔◌, ◌⊎◌, ◌++◌, ◌∷◌, [], sym, ap, refl, Bool, true, false, List, All, length, get_or, take, drop, min, cond, inl, inr, arith, subst}
 use Rattle.std.proofs.lemmas.Bool.{cases_eq, cases_lt, cases_Bool, false≢true}
 use Rattle.std.proofs.lemmas.Nat.{row_fits}
 use Rattle.std.proofs.lemmas.List.{get_or_past, take_at, drop_at, length_push}
@@ -8,9 +8,11 @@ use Rattle.bats_model.specs.Session.{SessionData, IsSession}
 use Rattle.bats_model.specs.Symbol.{symbol_byte}
 use Rattle.bats_model.specs.Agreement.{IsFile, Agrees, IsSameSymbol}
 use Rattle.bats_model.specs.Plain.{IsSymbol, IsPlain, IsUnitAt}
+use Rattle.bats_model.specs.Kept.{kept_after}
 use Rattle.bats_model.specs.declared.packet.Packet.{Packet}
 use Rattle.bats_model.proofs.PlainAgreement.{Agrees-plain}
-use Rattle.bats_decode.specs.Decoder.{DecoderData, StandsFor, Fits, is_known}
+use Rattle.bats_decode.specs.Decoder.{DecoderData, StandsFor, Fits, is_known, known_places}
+use Rattle.bats_decode.proofs.Places.{AreSamePlaces, Marks, IsAt, AreCounted, AreCounted-same, AreCounted-more}
 
 -- a place was taken in: its payload stands in the new file wherever that is possible, and nothing else changed
 pub record TakesIn (session : SessionData) (old new : DecoderData) (place : ℕ) (payload : List ℕ) : Type 0 where
@@ -151,17 +153,48 @@ Fits-received session old new place payload OF NF OK NK held size before kept eo
 -- a decoder of the session stands for packets
 StandsFor-at : (session : SessionData) (packets : List Packet) (d : DecoderData) → d.session ≡ session
     → ((file : List ℕ) → IsFile session file → All (Agrees session file) packets ↔ Fits session d file)
-    → d.packets ≡ min (length packets) (2 ^ 64 - 1) → StandsFor packets d
-StandsFor-at session packets d e fits counted =
+    → d.packets ≡ min (length packets) (2 ^ 64 - 1) → All (IsPlain session) packets
+    → All (λ packet. length packet.coefs ≡ session.m) packets → AreCounted session packets d.known → StandsFor packets d
+StandsFor-at session packets d e fits counted plain vectors places =
     let At : SessionData → Type 0 = λ s. (file : List ℕ) → IsFile s file → All (Agrees s file) packets ↔ Fits s d file in
-    record { fits = subst At (sym e) fits; counted = counted }
+    let Counted : SessionData → Type 0 = λ s. AreCounted s packets d.known in
+    let here : AreCounted d.session packets d.known = subst Counted (sym e) places in
+    record {
+      fits = subst At (sym e) fits;
+      counted = counted;
+      plain = subst (λ (s : SessionData). All (IsPlain s) packets) (sym e) plain;
+      vectors = subst (λ (s : SessionData). All (λ (packet : Packet). length packet.coefs ≡ s.m) packets) (sym e) vectors;
+      places = here.places;
+      kept = here.kept;
+    }
+
+-- a decoder that has received nothing
+pub StandsFor-empty : (d : DecoderData) → d.known ≡ [] → d.contradicted ≡ false → d.packets ≡ 0 → StandsFor [] d
+unfolding kept_after
+StandsFor-empty d known consistent none =
+    let unknown : (q : ℕ) → is_known d.known q ≡ false = λ q. ap (λ (ks : List Bool). is_known ks q) known in
+    record {
+      fits = λ file f. (
+        λ a. record { consistent = consistent; symbols = λ place k. absurd (false≢true (sym (unknown place) ∙ k)) },
+        λ fits. search rules,
+      );
+      counted = none;
+      plain = search rules;
+      vectors = search rules;
+      places = unknown;
+      kept = ap known_places known;
+    }
+
+counted-by : (packets : List Packet) (d : DecoderData) → StandsFor packets d → AreCounted d.session packets d.known
+counted-by packets d h = record { places = h.places; kept = h.kept }
 
 pub StandsFor-same : (packets : List Packet) (old new : DecoderData) → new.session ≡ old.session → new.packets ≡ old.packets
-    → ((file : List ℕ) → Fits old.session new file ↔ Fits old.session old file)
+    → ((file : List ℕ) → Fits old.session new file ↔ Fits old.session old file) → AreSamePlaces new.known old.known
     → StandsFor packets old → StandsFor packets new
-StandsFor-same packets old new e n same h =
+StandsFor-same packets old new e n same places h =
     StandsFor-at old.session packets new e
     (λ file f. (λ a. (same file).1 ((h.fits file f).0 a), λ a. (h.fits file f).1 ((same file).0 a))) (n ∙ h.counted)
+    h.plain h.vectors (AreCounted-same old.session packets old.known new.known places (counted-by packets old h))
 
 All-before : (P : Packet → Type 0) (xs : List Packet) (x : Packet) → All P (xs ++ x ∷ []) → All P xs
 All-before P xs x a =
@@ -174,23 +207,26 @@ last-of-All P xs x a =
     (All-same P (x ∷ []) (drop (length xs) (xs ++ x ∷ [])) (sym (drop_at xs (x ∷ []) (length xs) refl))
     (All-drop P (length xs) (xs ++ x ∷ []) a))
 
-pub StandsFor-more : (packets : List Packet) (packet : Packet) (old new : DecoderData) (place : ℕ) → new.session ≡ old.session
+pub StandsFor-more : (packets : List Packet) (packet : Packet) (old new : DecoderData) (j place : ℕ) → new.session ≡ old.session
     → ((file : List ℕ) → IsFile old.session file
     → Fits old.session new file ↔ (Fits old.session old file × IsSymbol old.session file place packet.payload))
     → ((file : List ℕ) → IsFile old.session file → Agrees old.session file packet ↔ IsSymbol old.session file place packet.payload)
-    → new.packets ≡ min (old.packets + 1) (2 ^ 64 - 1)
-    → StandsFor packets old → StandsFor (packets ++ packet ∷ []) new
-StandsFor-more packets packet old new place e taken plain n h =
-    let all : (file : List ℕ) → IsFile old.session file → All (Agrees old.session file) (packets ++ packet ∷ []) ↔ Fits old.session new file =
+    → new.packets ≡ min (old.packets + 1) (2 ^ 64 - 1) → IsPlain old.session packet → IsAt old.session packet j place
+    → Marks old.known new.known place → StandsFor packets old → StandsFor (packets ++ packet ∷ []) new
+StandsFor-more packets packet old new j place e taken agrees n plain at marks h =
+    let s = old.session in
+    let all : (file : List ℕ) → IsFile s file → All (Agrees s file) (packets ++ packet ∷ []) ↔ Fits s new file =
     λ file f.
-    let P : Packet → Type 0 = Agrees old.session file in (
-      λ a. (taken file f).1 ((h.fits file f).0 (All-before P packets packet a), (plain file f).0 (last-of-All P packets packet a)),
+    let P : Packet → Type 0 = Agrees s file in (
+      λ a. (taken file f).1 ((h.fits file f).0 (All-before P packets packet a), (agrees file f).0 (last-of-All P packets packet a)),
       λ fits.
           let both = (taken file f).0 fits in
-          All-push P packets packet ((h.fits file f).1 both.0) ((plain file f).1 both.1),
+          All-push P packets packet ((h.fits file f).1 both.0) ((agrees file f).1 both.1),
     ) in
-    StandsFor-at old.session (packets ++ packet ∷ []) new e all
-    (omega (arith, n, h.counted, length_push packets packet))
+    StandsFor-at s (packets ++ packet ∷ []) new e all
+    (omega (arith, n, h.counted, length_push packets packet)) (All-push (IsPlain s) packets packet h.plain plain)
+    (All-push (λ (p : Packet). length p.coefs ≡ s.m) packets packet h.vectors at.size)
+    (AreCounted-more s packets packet old.known new.known j place at marks (counted-by packets old h))
 
 -- a plain packet was received
 pub StandsFor-offered : (packets : List Packet) (packet : Packet) (old mid new : DecoderData) (j place : ℕ) (coefs payload : List ℕ)
@@ -201,22 +237,28 @@ pub StandsFor-offered : (packets : List Packet) (packet : Packet) (old mid new :
     → ((file : List ℕ) → Fits old.session mid file ↔ Fits old.session old file)
     → ((file : List ℕ) → IsFile mid.session file
     → Fits mid.session new file ↔ (Fits mid.session mid file × IsSymbol mid.session file place payload))
+    → AreSamePlaces mid.known old.known → Marks mid.known new.known place
     → StandsFor packets old → StandsFor (packets ++ packet ∷ []) new
-StandsFor-offered packets packet old mid new j place coefs payload limits plain unit ec size ep at em en nm nn same received h =
+StandsFor-offered packets packet old mid new j place coefs payload limits plain unit ec size ep here em en nm nn same received padded marks h =
     let s = old.session in
     let At : SessionData → Type 0 = λ x. (file : List ℕ) → IsFile x file
     → Fits x new file ↔ (Fits x mid file × IsSymbol x file place payload) in
-    let here : At s = subst At em received in
+    let receives : At s = subst At em received in
     let some : 0 < s.t = subst (λ (x : SessionData). 0 < x.t) em limits.t_low in
     let unit_here : IsUnitAt packet.coefs j = subst (λ (xs : List ℕ). IsUnitAt xs j) ec unit in
-    let place_is : packet.batch * s.m + j ≡ place = ap (λ (x : SessionData). packet.batch * x.m + j) (sym em) ∙ sym at in
+    let place_is : packet.batch * s.m + j ≡ place = ap (λ (x : SessionData). packet.batch * x.m + j) (sym em) ∙ sym here in
     let agrees : (file : List ℕ) → IsFile s file → Agrees s file packet ↔ IsSymbol s file place packet.payload = λ file f.
     subst (λ (p : ℕ). Agrees s file packet ↔ IsSymbol s file p packet.payload) place_is
     (Agrees-plain s file packet j f plain.systematic unit_here size some) in
     let taken : (file : List ℕ) → IsFile s file → Fits s new file ↔ (Fits s old file × IsSymbol s file place packet.payload) = λ file f.
     subst (λ (xs : List ℕ). Fits s new file ↔ (Fits s old file × IsSymbol s file place xs)) ep (
-      λ fits. let both = (here file f).0 fits in ((same file).0 both.0, both.1),
-      λ (fits, symbol). (here file f).1 ((same file).1 fits, symbol),
+      λ fits. let both = (receives file f).0 fits in ((same file).0 both.0, both.1),
+      λ (fits, symbol). (receives file f).1 ((same file).1 fits, symbol),
     ) in
     let counted : new.packets ≡ min (old.packets + 1) (2 ^ 64 - 1) = nn ∙ ap (λ (n : ℕ). min (n + 1) (2 ^ 64 - 1)) nm in
-    StandsFor-more packets packet old new place (en ∙ em) taken agrees counted h
+    let marked : Marks old.known new.known place = record {
+      here = marks.here;
+      elsewhere = λ q n. marks.elsewhere q n ∙ padded q;
+    } in
+    StandsFor-more packets packet old new j place (en ∙ em) taken agrees counted plain
+    (record { unit = unit_here; size = size; number = sym place_is }) marked h

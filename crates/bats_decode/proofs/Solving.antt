@@ -1,15 +1,13 @@
 -- The answers that a decoder gives are right for each list of packets that it stands for.
-use Rattle.std.proofs.Common.{ℕ, ◌≡◌, ◌≢◌, ◌<◌, ◌≤◌, ◌+◌, ◌*◌, ◌/◌, ◌%◌, ◌∙◌, ◌↔◌, sym, ap, refl, Bool, true, false, List, All, length, get_or, set, min, inl, inr, arith, subst, add-zero, add-mul, one-mul}
-use Rattle.std.specs.Int.{div_ceil}
-use Rattle.std.proofs.lemmas.Bool.{cases_lt, false≢true}
+use Rattle.std.proofs.Common.{ℕ, ◌≡◌, ◌≢◌, ◌<◌, ◌≤◌, ◌+◌, ◌*◌, ◌/◌, ◌%◌, ◌∙◌, ◌↔◌, sym, ap, true, false, List, length, get_or, set, arith, add-zero, add-mul, one-mul}
+use Rattle.std.proofs.lemmas.Bool.{false≢true}
 use Rattle.std.proofs.lemmas.List.{get_or-set_same, get_or-set_other, length-set, ext_get_or}
 use Rattle.std.proofs.lemmas.List.Elements.{All-set}
 use Rattle.std.proofs.lemmas.Grind.{div_ceil_times}
 use Rattle.std.proofs.lemmas.Nat.{div-add-mod', mod_below, div_below, same_from_place, mul-le}
 use Rattle.bats_model.specs.Session.{SessionData, symbols_of}
-use Rattle.bats_model.specs.Symbol.{symbol_byte}
 use Rattle.bats_model.specs.Bytes.{AreBytes}
-use Rattle.bats_model.specs.Agreement.{IsFile, Agrees, AgreesWithAll, IsSameSymbol}
+use Rattle.bats_model.specs.Agreement.{IsFile, AgreesWithAll, IsSameSymbol}
 use Rattle.bats_model.specs.RightAnswer.{IsOnlyFile, NoFileAgrees, IsFirstOpen}
 use Rattle.bats_model.specs.declared.packet.Packet.{Packet}
 use Rattle.bats_decode.specs.Decoder.{DecoderData, StandsFor, Fits, is_known}

@@ -1,7 +1,7 @@
-ghost use Rattle.std.specs.Prelude.{◌≡◌, ◌↔◌, ◌<◌, ◌≤◌, ◌+◌, ◌-◌, ◌^◌, min, ◌++◌, ◌∷◌, [], ℕ, List, length, IfOk, OnOk, OnErr};
+ghost use Rattle.std.specs.Prelude.{◌≡◌, ◌≢◌, true, ◌↔◌, ◌<◌, ◌≤◌, ◌+◌, ◌-◌, ◌^◌, min, ◌++◌, ◌∷◌, [], ℕ, List, length, IfOk, OnOk, OnErr};
 
 use crate::symbols::{
-    are_bytes, first_unknown, known_count, pad_file, pad_known, take_in_and_compare, with_byte,
+    first_unknown, known_count, pad_file, pad_known, take_in_and_compare, with_byte,
 };
 use bats_model::{Answer, Bytes, Packet, Session, unit_place};
 use gf_rows::Steps;
@@ -57,7 +57,8 @@ impl Decoder {
     ghost use Rattle.bats_model.specs.Plain.{IsPlain, IsSymbol};
     ghost use Rattle.bats_model.specs.RightAnswer.{IsRightAnswer};
     ghost use Rattle.bats_model.specs.declared.packet.Packet.{Packet};
-    ghost use Rattle.bats_decode.specs.Decoder.{StandsFor, Fits};
+    ghost use Rattle.bats_model.specs.Kept.{kept_count};
+    ghost use Rattle.bats_decode.specs.Decoder.{StandsFor, Fits, is_known};
 
     /// A decoder that has received nothing. It takes no memory.
     pub fn new(alloc: Global, session: Session) -> Decoder
@@ -79,6 +80,7 @@ impl Decoder {
         ensures session { self.new.session ≡ self.old.session }
         ensures packets { self.new.packets ≡ self.old.packets }
         ensures same { (file : List ℕ) → Fits self.old.session self.new file ↔ Fits self.old.session self.old file }
+        ensures places { (q : ℕ) → is_known self.new.known q ≡ is_known self.old.known q }
         ensures file { OnOk result (length self.new.file ≡ self.new.session.file_length) }
         ensures known { OnOk result (length self.new.known ≡ symbols_of self.new.session + self.new.session.m) }
     {
@@ -99,7 +101,10 @@ impl Decoder {
         ensures packets { self.new.packets ≡ min (self.old.packets + 1) (2 ^ 64 - 1) }
         ensures fits { (file : List ℕ) → IsFile self.old.session file → Fits self.old.session self.new file
             ↔ (Fits self.old.session self.old file × IsSymbol self.old.session file place payload.now) }
+        ensures here { is_known self.new.known place ≡ true }
+        ensures elsewhere { (q : ℕ) → q ≢ place → is_known self.new.known q ≡ is_known self.old.known q }
     {
+        // T is within its limits, so that the place's bytes end below 2^64.
         let _t = self.session.t();
         self.packets = self.packets.saturating_add(1);
         if !take_in_and_compare(&mut self.file, &mut self.known, place, payload) {
@@ -145,7 +150,6 @@ impl Decoder {
         }
         let mut file = self.file;
         pad_file(&mut file, self.session.length() as usize)?;
-        are_bytes(&file);
         let Some(at_symbol) = first_unknown(&self.known, self.session.symbols()) else {
             return Ok(Answer::File(Bytes::from(file)));
         };
@@ -171,6 +175,8 @@ impl Decoder {
         ensures right { IfOk result (λ solved. (packets : List Packet) → StandsFor packets self
             → IsRightAnswer self.session packets solved.answer) }
         ensures packets { IfOk result (λ solved. solved.packets ≡ self.packets) }
+        ensures kept { IfOk result (λ solved. (packets : List Packet) → StandsFor packets self
+            → solved.kept ≡ kept_count packets) }
         ensures coef_steps { coef_steps.new ≡ coef_steps.old }
         ensures steps { steps.new ≡ steps.old }
     {

@@ -1,6 +1,6 @@
 ghost use Rattle.std.specs.Prelude.{◌≡◌, ◌≢◌, ◌↔◌, ◌⊎◌, ◌<◌, ◌≤◌, ◌+◌, ◌*◌, ◌^◌, ℕ, false, true, IsTrue, IsNone, IfSome, IfOk, OnOk, OnErr, length, slice_index, slice_set};
 ghost use Rattle.bats_model.specs.Bytes.{AreBytes};
-ghost use Rattle.bats_decode.specs.Decoder.{is_known};
+ghost use Rattle.bats_decode.specs.Decoder.{is_known, known_places};
 
 use bats_model::Bytes;
 use std::alloc::{AllocError, Global};
@@ -90,6 +90,7 @@ pub(crate) fn pad_file(file: &mut Vec<u8>, size: usize) -> Result<(), AllocError
     ensures same { (i : ℕ) → slice_index file.new.items i ≡ slice_index file.old.items i }
     ensures ok { OnOk result (length file.new.items ≡ size) }
     ensures err { OnErr result (file.new.items ≡ file.old.items) }
+    ensures bytes { AreBytes file.new.items }
 {
     file.resize(size, 0)
 }
@@ -124,6 +125,7 @@ pub(crate) fn first_unknown(known: &[bool], count: u32) -> Option<u32>
 // How many places are known.
 pub(crate) fn known_count(known: &[bool]) -> u32
     requires { length known.now < 2 ^ 32 }
+    ensures { result ≡ known_places known.now }
 {
     let mut count = 0;
     for is_known in known {
@@ -147,11 +149,4 @@ pub(crate) fn with_byte(
     let mut copy = Vec::from_slice(alloc, file)?;
     copy[place] = byte;
     Ok(Bytes::from(copy))
-}
-
-// Each byte is below 256.
-pub(crate) fn are_bytes(file: &[u8])
-    ensures { AreBytes file.now }
-{
-    let _size = file.len();
 }

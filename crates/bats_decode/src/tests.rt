@@ -82,12 +82,14 @@ fn check<R: Threads + Sync + AllocGlobal + Abort>(
     rt: &R,
     length: u64,
     packets: &[Sent],
+    kept: u32,
     kind: &str,
     expected: &[u8],
 ) -> Result<(), Fail> {
     let counters = (Blank::new(1), Blank::new(1));
     let found = solved::<R, Brand, Brand>(rt, length, packets, counters)?;
     assert_eq!(rt; found.packets, packets.len() as u64);
+    assert_eq!(rt; found.kept, kept);
     match found.answer {
         Answer::File(file) => {
             assert_eq!(rt; kind, "file");
@@ -113,6 +115,7 @@ fn the_symbols_in_any_order_give_the_file(rt: HostRuntime) -> Result<(), Fail> {
         &rt,
         4,
         &[(0, 0, [1, 2]), (0, 1, [3, 4])],
+        2,
         "file",
         &[1, 2, 3, 4],
     )?;
@@ -120,6 +123,7 @@ fn the_symbols_in_any_order_give_the_file(rt: HostRuntime) -> Result<(), Fail> {
         &rt,
         4,
         &[(0, 1, [3, 4]), (0, 0, [1, 2]), (0, 1, [3, 4])],
+        2,
         "file",
         &[1, 2, 3, 4],
     )?;
@@ -127,11 +131,19 @@ fn the_symbols_in_any_order_give_the_file(rt: HostRuntime) -> Result<(), Fail> {
         &rt,
         5,
         &[(1, 0, [5, 0]), (0, 1, [3, 4]), (0, 0, [1, 2])],
+        3,
         "file",
         &[1, 2, 3, 4, 5],
     )?;
-    check(&rt, 2, &[(0, 0, [1, 2]), (0, 1, [0, 0])], "file", &[1, 2])?;
-    check(&rt, 0, &[], "file", &[])
+    check(
+        &rt,
+        2,
+        &[(0, 0, [1, 2]), (0, 1, [0, 0])],
+        2,
+        "file",
+        &[1, 2],
+    )?;
+    check(&rt, 0, &[], 0, "file", &[])
 }
 
 #[test]
@@ -140,6 +152,7 @@ fn contradicting_packets_are_told(rt: HostRuntime) -> Result<(), Fail> {
         &rt,
         4,
         &[(0, 0, [1, 2]), (0, 0, [1, 3])],
+        1,
         "inconsistent",
         &[],
     )?;
@@ -147,15 +160,23 @@ fn contradicting_packets_are_told(rt: HostRuntime) -> Result<(), Fail> {
         &rt,
         2,
         &[(0, 0, [1, 2]), (0, 1, [0, 1])],
+        2,
         "inconsistent",
         &[],
     )?;
-    check(&rt, 5, &[(1, 0, [5, 1])], "inconsistent", &[])
+    check(&rt, 5, &[(1, 0, [5, 1])], 1, "inconsistent", &[])
 }
 
 #[test]
 fn packets_left_out_leave_two_files(rt: HostRuntime) -> Result<(), Fail> {
-    check(&rt, 4, &[], "need more", &[0])?;
-    check(&rt, 4, &[(0, 0, [1, 2])], "need more", &[1])?;
-    check(&rt, 6, &[(0, 0, [1, 2]), (1, 0, [5, 6])], "need more", &[1])
+    check(&rt, 4, &[], 0, "need more", &[0])?;
+    check(&rt, 4, &[(0, 0, [1, 2])], 1, "need more", &[1])?;
+    check(
+        &rt,
+        6,
+        &[(0, 0, [1, 2]), (1, 0, [5, 6])],
+        2,
+        "need more",
+        &[1],
+    )
 }

@@ -1,5 +1,5 @@
 -- The file agrees with each of its coded packets.
-use Rattle.std.proofs.Common.{ℕ, ◌≡◌, ◌<◌, ◌==◌, ◌∙◌, cond, sym, ap, List, length, get_or, arith}
+use Rattle.std.proofs.Common.{ℕ, ◌≡◌, ◌<◌, ◌∙◌, sym, ap, List, length, get_or, arith}
 use Rattle.std.proofs.lemmas.List.FromFn.{get_or-map-range_with_len, length-map-range_with_len}
 use Rattle.bats_model.specs.Session.{SessionData}
 use Rattle.bats_model.specs.Batch.{BatchData, batch_of}
@@ -8,10 +8,11 @@ use Rattle.bats_model.specs.Agreement.{IsFile, Agrees}
 use Rattle.bats_model.specs.Plain.{IsUnitAt}
 use Rattle.bats_model.specs.declared.packet.Packet.{Packet}
 use Rattle.bats_model.proofs.PlainAgreement.{combined_byte-unit}
+use Rattle.bats_model.proofs.UnitVectors.{length-unit_vector}
 
-length-unit_vector : (m j : ℕ) → length (unit_vector m j) ≡ m
-unfolding unit_vector
-length-unit_vector m j = length-map-range_with_len (λ i. cond (i == j) 1 0) 0 m
+pub length-coded_payload : (session : SessionData) (file : List ℕ) (batch : BatchData) (j : ℕ) → length (coded_payload session file batch j) ≡ session.t
+unfolding coded_payload
+length-coded_payload session file batch j = length-map-range_with_len (coded_byte session file batch j) 0 session.t
 
 get_or-coded_payload : (session : SessionData) (file : List ℕ) (batch : BatchData) (j c : ℕ) → c < session.t
     → get_or (coded_payload session file batch j) c 0 ≡ coded_byte session file batch j c

@@ -1,1 +1,1 @@
-mod Agreements
+pub mod Agreements

@@ -2,12 +2,16 @@
 use Rattle.std.proofs.Common.{ℕ, ◌≡◌, ◌≢◌, ◌<◌, ◌==◌, ◌+◌, ◌-◌, ◌∙◌, sym, ap, refl, cond, List, length, get_or, take, drop, subst, inl, inr, arith}
 use Rattle.std.proofs.lemmas.Bool.{cases_order, cond-true, cond-false, eq-eqb, ne_eqb}
 use Rattle.std.proofs.lemmas.List.{get_or-drop, length-drop, take_rest}
-use Rattle.std.proofs.lemmas.List.FromFn.{get_or-map-range_with_len, fill_by_all}
+use Rattle.std.proofs.lemmas.List.FromFn.{get_or-map-range_with_len, length-map-range_with_len, fill_by_all}
 use Rattle.bats_model.specs.Coded.{unit_vector}
 use Rattle.bats_model.specs.Plain.{IsUnitAt}
 
 abbrev unit_entry : ℕ → ℕ → ℕ
 unit_entry j i = cond (i == j) 1 0
+
+pub length-unit_vector : (m j : ℕ) → length (unit_vector m j) ≡ m
+unfolding unit_vector
+length-unit_vector m j = length-map-range_with_len (λ i. cond (i == j) 1 0) 0 m
 
 entry-same : (i j : ℕ) → i ≡ j → unit_entry j i ≡ 1
 entry-same i j e = cond-true (i == j) 1 0 (eq-eqb i j e)

@@ -1,4 +1,4 @@
-pub mod Bytes
+pub use Rattle.gf_core.specs.Bytes
 pub mod Session
 pub mod Symbol
 pub mod Key
@@ -8,3 +8,7 @@ pub mod Coded
 pub mod Agreement
 pub mod RightAnswer
 pub mod Plain
+pub mod Records
+pub mod PacketFile
+pub mod Refusal
+pub mod Kept

@@ -5,17 +5,21 @@
 mod answer;
 mod batch;
 mod bytes;
+mod item;
 mod numbers;
 mod packet;
 mod plain;
+mod read_end;
 mod session;
 mod systematic;
 
 pub use answer::Answer;
 pub use batch::Batch;
 pub use bytes::Bytes;
+pub use item::Item;
 pub use numbers::Nums;
 pub use packet::Packet;
 pub use plain::{is_plain, is_zero, unit_place};
+pub use read_end::{HeaderField, ReadEnd};
 pub use session::{BadSession, Session};
 pub use systematic::unit_batch;

@@ -42,6 +42,7 @@ fn first_degree_above(rows: [(u8, u16); 8], number: u32) -> u32
 pub fn degree_of(table: u8, number: u32) -> u32
     ensures value { result ≡ degree_at (degree_table table) number }
     ensures few { result ≤ 128 }
+    ensures some { number < 1000 → 1 ≤ result }
 {
     first_degree_above(if table == 0 { TABLE_0 } else { TABLE_1 }, number)
 }

@@ -1,4 +1,5 @@
-ghost use Rattle.std.specs.Prelude.{◌≡◌, ◌+◌, ◌*◌, ◌/◌, ◌%◌, ◌≤◌, ◌<◌, ◌^◌, IfOk};
+ghost use Rattle.std.specs.Prelude.{◌≡◌, ◌+◌, ◌*◌, ◌/◌, ◌%◌, ◌≤◌, ◌<◌, ◌^◌, IfOk, OnOk};
+ghost use Rattle.std.specs.Int.{div_ceil};
 ghost use Rattle.bats_model.specs.Key.{key_word, seeded_key, pick};
 ghost use Rattle.bats_sampler.specs.Words.{bytes_from};
 
@@ -88,10 +89,11 @@ fn byte_of(word: u32, place: u32) -> u8
     }
 }
 
-/// The next `count` bytes of the words: four bytes a word, the lowest first.
+/// The next `count` bytes of the words: four bytes a word, the lowest first. The rest of the last word is passed over.
 pub fn next_bytes(alloc: Global, words: &mut KeyWords, count: u32) -> Result<Vec<u8>, AllocError>
     requires { (words.old.place < 2 ^ 32) × (count ≤ 4096) }
-    ensures { IfOk result (λ bytes. bytes.items ≡ bytes_from words.old.key (4 * words.old.place) count) }
+    ensures bytes { IfOk result (λ bytes. bytes.items ≡ bytes_from words.old.key (4 * words.old.place) count) }
+    ensures after { OnOk result (words.new ≡ record words.old { place = words.old.place + div_ceil count 4 }) }
 {
     let mut bytes = Vec::with_capacity(alloc, count as usize)?;
     let mut word = 0;

@@ -6,11 +6,12 @@ use Rattle.std.specs.Option.{option_and_then}
 use Rattle.std.proofs.lemmas.Option.{cond_some, option_and_then_some}
 use Rattle.std.specs.Str.Parse.{digits_value}
 use Rattle.bats_tool.specs.declared.command.Command.{Command}
-use Rattle.bats_tool.specs.declared.command.Command.TheVariants.{Source}
-use Rattle.bats_tool.specs.Options.{HasRanges, options_of}
+use Rattle.bats_tool.specs.declared.command.Command.TheVariants.{Source, Sink, Show}
+use Rattle.bats_tool.specs.Options.{InRanges}
 use Rattle.bats_tool.specs.WordValues.{number_in, is_number_word, seed_of}
-use Rattle.bats_tool.specs.WordItems.{read_items, value_of, is_there}
-use Rattle.bats_tool.specs.Words.{command_of, source_of, read_by, read_or, source_names}
+use Rattle.bats_tool.specs.WordItems.{KnownNames, read_items, value_of, is_there}
+use Rattle.bats_tool.specs.Words.{command_of, read_by, read_or, source_of, source_names, sink_of, sink_names, show_of, show_names}
+use Rattle.bats_tool.proofs.CommandWords.{Builder}
 
 in_range : (b : Bool) (low v high n : ℕ) → cond (b && nat_le low v && nat_le v high) (Some v) None ≡ Some n → (low ≤ n) × (n ≤ high)
 in_range b low v high n h =
@@ -33,8 +34,10 @@ option_range : (low high n : ℕ) (word : Option (List ℕ)) → option_and_then
 option_range low high n None h = cc
 option_range low high n (Some word) h = number_in-range low high word n h
 
+-- ---- each command
+
 source_of-ranges : (value : List ℕ → Option (List ℕ)) (flag : List ℕ → Bool) (command : Command)
-    → source_of value flag ≡ Some command → HasRanges (options_of command)
+    → source_of value flag ≡ Some command → InRanges command
 unfolding source_of
 source_of-ranges value flag command h =
     option_and_then_some _ (option_and_then (number_in 1 32) (value (codes "--m"))) command h (λ m m_is rest.
@@ -49,7 +52,7 @@ source_of-ranges value flag command h =
     let rb = option_range 0 32767 batches (value (codes "--batches")) batches_is in
     let rtab = read_or-range 0 0 1 table (value (codes "--table")) (omega arith) (omega arith) table_is in
     let rf = read_or-range 0 0 4000000000 first (value (codes "--from")) (omega arith) (omega arith) first_is in
-    subst (λ (c : Command). HasRanges (options_of c)) same (record {
+    subst (λ (c : Command). InRanges c) same (record {
       m_low = rm.0;
       m_high = rm.1;
       t_low = rt.0;
@@ -59,15 +62,45 @@ source_of-ranges value flag command h =
       batches_high = rb.1;
     })))))))
 
-choice_some : (b : Bool) (o : Option Command) (command : Command) → cond b o None ≡ Some command → o ≡ Some command
-choice_some true o command h = h
-choice_some false o command h = cc
+sink_of-ranges : (value : List ℕ → Option (List ℕ)) (flag : List ℕ → Bool) (command : Command)
+    → sink_of value flag ≡ Some command → InRanges command
+unfolding sink_of
+sink_of-ranges value flag command h =
+    option_and_then_some _ (read_or 1 (number_in 1 64) (value (codes "--workers"))) command h (λ workers workers_is rest.
+    let same : Sink workers (flag (codes "--both")) ≡ command = cc in
+    let r = read_or-range 1 1 64 workers (value (codes "--workers")) (omega arith) (omega arith) workers_is in
+    subst (λ (c : Command). InRanges c) same (record { low = r.0; high = r.1 }))
+
+show_of-ranges : (value : List ℕ → Option (List ℕ)) (flag : List ℕ → Bool) (command : Command)
+    → show_of value flag ≡ Some command → InRanges command
+unfolding show_of
+show_of-ranges value flag command h =
+    let same : Show ≡ command = cc in
+    subst (λ (c : Command). InRanges c) same tt
+
+-- ---- all of them
+
+-- a command that is read has its values in their ranges where its builder keeps to them
+read_by-ranges : (known : KnownNames) (build : Builder)
+    → ((value : List ℕ → Option (List ℕ)) (flag : List ℕ → Bool) (command : Command) → build value flag ≡ Some command → InRanges command)
+    → (words : List (List ℕ)) (command : Command) → read_by known build words ≡ Some command → InRanges command
+read_by-ranges known build within words command h =
+    option_and_then_some _ (read_items known words) command h (λ items items_is rest.
+    within (λ name. value_of name items) (λ name. is_there name items) command rest)
+
+by_choice : (b : Bool) (o p : Option Command) (command : Command) → (o ≡ Some command → InRanges command) → (p ≡ Some command → InRanges command)
+    → cond b o p ≡ Some command → InRanges command
+by_choice true o p command first other h = first h
+by_choice false o p command first other h = other h
+
+no_command : (command : Command) → None ≡ Some command → InRanges command
+no_command command h = cc
 
 -- each command has its values in their ranges
-pub command_of-ranges : (words : List (List ℕ)) (command : Command) → command_of words ≡ Some command → HasRanges (options_of command)
+pub command_of-ranges : (words : List (List ℕ)) (command : Command) → command_of words ≡ Some command → InRanges command
 unfolding command_of
 command_of-ranges [] command h = cc
 command_of-ranges (name ∷ words) command h =
-    let found = choice_some _ (read_by source_names source_of words) command h in
-    option_and_then_some _ (read_items source_names words) command found (λ items items_is rest.
-    source_of-ranges (λ name. value_of name items) (λ name. is_there name items) command rest)
+    by_choice _ _ _ command (read_by-ranges source_names source_of source_of-ranges words command) (
+    by_choice _ _ _ command (read_by-ranges sink_names sink_of sink_of-ranges words command) (
+    by_choice _ _ _ command (read_by-ranges show_names show_of show_of-ranges words command) (no_command command))) h

@@ -1,77 +1,98 @@
 -- What a command leaves of input and output, before anything is said on the notes.
-use Rattle.std.specs.Prelude.{◌≡◌, ◌≢◌, ◌≤◌, ℕ, true, List, String, Vec, string_bytes, length, Option, None, Some, Result, Ok, Err}
+use Rattle.std.specs.Prelude.{◌≡◌, ◌≤◌, ℕ, true, List, Vec, string_bytes, length, Option, Result, Ok, Err}
 use Rattle.std.specs.Global.{Global}
 use Rattle.bats_io.specs.Faults.{Rose}
+use Rattle.bats_io.specs.Sink.{Appends}
+use Rattle.bats_io.specs.Streams.{InputState, OutputState, IsTold, IsEnded, ReadsAtMost}
 use Rattle.bats_model.specs.Session.{SessionData, symbols_of}
 use Rattle.bats_tool.specs.Options.{session_for}
 use Rattle.bats_tool.specs.declared.command.Command.{Command}
+use Rattle.bats_tool.specs.declared.command.Command.TheVariants as commands
+use Rattle.bats_tool.specs.declared.finish.Finish.{Finish}
 use Rattle.bats_tool.specs.declared.source.SourceOptions.{SourceOptions}
+use Rattle.bats_tool.specs.declared.status.Status.{Status}
 use Rattle.bats_tool.specs.declared.status.Status.TheVariants as statuses
 use Rattle.bats_tool.specs.declared.stop.Stop.{Stop}
 use Rattle.bats_tool.specs.declared.stop.Stop.TheVariants as stops
-use Rattle.bats_tool.specs.Streams.{InputState, OutputState, IsFile, IsEnded, ReadsAtMost}
-use Rattle.bats_tool.specs.Ending.{Ending, refusal, source_ending, ending_of, HasRead}
-use Rattle.bats_tool.specs.Writes.{Writes}
-
--- an input and an output at one moment
-pub record Ends : Type 0 where
-  pub input : InputState
-  pub output : OutputState
+use Rattle.bats_tool.specs.Streams.{Ends}
+use Rattle.bats_tool.specs.Ending.{Ending, refusal, source_ending, most_read}
+use Rattle.bats_tool.specs.Commands.{IsEnding, ReadsAsFar}
+use Rattle.bats_tool.specs.Run.{HasRead, WritesPart, WritesPartRead}
 
 -- nothing was written, and no write failed
 pub record WritesNothing (before after : OutputState) : Type 0 where
   pub written : after.written ≡ before.written
   pub faults : after.faults ≡ before.faults
 
--- the whole output was written and flushed
-pub record Completes (ending : Ending) (before after : Ends) (line : List ℕ) : Type 0 where
-  pub done : ending.status ≡ statuses.Done
-  pub line_is : line ≡ ending.line
-  pub input : HasRead ending.status before.input.left after.input.left
+-- a status that no failed call and no want of memory is behind
+abbrev pub IsOfEnding : Status → Type 0
+IsOfEnding statuses.ReadFault = ⊥
+IsOfEnding statuses.WriteFault = ⊥
+IsOfEnding statuses.Memory = ⊥
+IsOfEnding _ = Unit {0}
+
+-- the whole output of a right ending was written and flushed
+pub record Completes (command : Option Command) (input : List ℕ) (before after : Ends) (finish : Finish) : Type 0 where
+  pub ending : Ending
+  pub is_ending : IsEnding command input ending
+  pub status_is : finish.status ≡ ending.status
+  pub of_ending : IsOfEnding finish.status
+  pub line_is : string_bytes finish.line ≡ ending.line
+  pub read : HasRead ending.status before.input.left after.input.left
   pub input_fault : after.input.faults ≡ before.input.faults
-  pub output : Writes before.output.written after.output.written before.output.faults after.output.faults ending.output None
+  pub output : Appends before.output.written after.output.written ending.output
+  pub output_fault : after.output.faults ≡ before.output.faults
   pub flushed : after.output.flushed ≡ true
 
--- the words or the input are refused
-pub record Refuses (stop : Stop) (ending : Ending) (before after : Ends) : Type 0 where
-  pub refused : ending ≡ refusal ending.most stop
-  pub input : HasRead ending.status before.input.left after.input.left
+-- the words or the input are refused, before anything is written
+pub record Refuses (stop : Stop) (command : Option Command) (input : List ℕ) (before after : Ends) : Type 0 where
+  pub is_ending : IsEnding command input (refusal stop)
+  pub read : HasRead (refusal stop).status before.input.left after.input.left
   pub input_fault : after.input.faults ≡ before.input.faults
   pub output : WritesNothing before.output after.output
 
 -- a read failed
-pub record CannotRead (ending : Ending) (before after : Ends) : Type 0 where
-  pub command : ending.status ≢ statuses.Usage
+pub record CannotRead (command : Option Command) (input : List ℕ) (before after : Ends) : Type 0 where
   pub input_fault : Rose before.input.faults after.input.faults
-  pub output : WritesNothing before.output after.output
+  pub output : WritesPartRead command before.input after.input before.output after.output
+  pub output_fault : after.output.faults ≡ before.output.faults
 
 -- a write or a flush failed
-pub record CannotWrite (ending : Ending) (before after : Ends) : Type 0 where
-  pub output : Writes before.output.written after.output.written before.output.faults after.output.faults ending.output (Some stops.WriteFault)
+pub record CannotWrite (command : Option Command) (input : List ℕ) (before after : Ends) : Type 0 where
+  pub input_fault : after.input.faults ≡ before.input.faults
+  pub output : WritesPart command input before.output after.output
+  pub output_fault : Rose before.output.faults after.output.faults
 
 -- memory ran out
-pub record LacksMemory (ending : Ending) (before after : Ends) : Type 0 where
+pub record LacksMemory (command : Option Command) (input : List ℕ) (before after : Ends) : Type 0 where
   pub input_fault : after.input.faults ≡ before.input.faults
-  pub output : Writes before.output.written after.output.written before.output.faults after.output.faults ending.output (Some stops.Memory)
+  pub output : WritesPart command input before.output after.output
+  pub output_fault : after.output.faults ≡ before.output.faults
 
-abbrev pub AttemptsAs : Ending → Ends → Ends → Result (String Global) Stop → Type 0
-AttemptsAs ending before after (Ok line) = Completes ending before after (string_bytes line)
-AttemptsAs ending before after (Err stops.ReadFault) = CannotRead ending before after
-AttemptsAs ending before after (Err stops.WriteFault) = CannotWrite ending before after
-AttemptsAs ending before after (Err stops.Memory) = LacksMemory ending before after
-AttemptsAs ending before after (Err stop) = Refuses stop ending before after
+abbrev pub AttemptsAs : Option Command → List ℕ → Ends → Ends → Result Finish Stop → Type 0
+AttemptsAs command input before after (Ok finish) = Completes command input before after finish
+AttemptsAs command input before after (Err stops.ReadFault) = CannotRead command input before after
+AttemptsAs command input before after (Err stops.WriteFault) = CannotWrite command input before after
+AttemptsAs command input before after (Err stops.Memory) = LacksMemory command input before after
+AttemptsAs command input before after (Err stop) = Refuses stop command input before after
 
 -- what a command does before anything is said on the notes
-pub record Attempts (command : Option Command) (before after : Ends) (result : Result (String Global) Stop) : Type 0 where
-  pub file : List ℕ
-  pub told : IsFile before.input.left file
-  pub read : ReadsAtMost before.input.left after.input.left (ending_of command file).most
-  pub as_far : AttemptsAs (ending_of command file) before after result
+pub record Attempts (command : Option Command) (before after : Ends) (result : Result Finish Stop) : Type 0 where
+  pub input : List ℕ
+  pub told : IsTold before.input.left input
+  pub read : ReadsAsFar command before.input.left after.input.left
+  pub as_far : AttemptsAs command input before after result
+
+-- ---- source
+
+-- the command of these options
+abbrev pub source_command : SourceOptions → Command
+source_command o = commands.Source o.m o.t o.table o.systematic o.seed o.first o.batches
 
 -- the file and its session are ready
 pub record IsReady (options : SourceOptions) (before after : InputState) (session : SessionData) (bytes : List ℕ) : Type 0 where
-  pub told : IsFile before.left bytes
-  pub read : ReadsAtMost before.left after.left (source_ending options bytes).most
+  pub told : IsTold before.left bytes
+  pub read : ReadsAtMost before.left after.left (most_read options)
   pub symbols : symbols_of (session_for options (length bytes)) ≤ 4096
   pub end : IsEnded after.left
   pub no_fault : after.faults ≡ before.faults
@@ -79,25 +100,18 @@ pub record IsReady (options : SourceOptions) (before after : InputState) (sessio
 
 -- what a cause says of the ending and of the input
 abbrev pub IsCause : Stop → Ending → InputState → InputState → Type 0
-IsCause stops.Symbols ending before after = (ending ≡ refusal ending.most stops.Symbols) × (after.faults ≡ before.faults)
-IsCause stops.ReadFault ending before after = (ending.status ≢ statuses.Usage) × Rose before.faults after.faults
+IsCause stops.Symbols ending before after = (ending ≡ refusal stops.Symbols) × (after.faults ≡ before.faults)
+IsCause stops.ReadFault ending before after = Rose before.faults after.faults
 IsCause stops.Memory ending before after = after.faults ≡ before.faults
 IsCause _ ending before after = ⊥
 
 -- the reading or the judging of a file stopped
 pub record StopsReading (stop : Stop) (options : SourceOptions) (before after : InputState) : Type 0 where
   pub file : List ℕ
-  pub told : IsFile before.left file
-  pub read : ReadsAtMost before.left after.left (source_ending options file).most
+  pub told : IsTold before.left file
+  pub read : ReadsAtMost before.left after.left (most_read options)
   pub cause : IsCause stop (source_ending options file) before after
 
 abbrev pub Prepares : SourceOptions → InputState → InputState → Result (SessionData × Vec ℕ Global) Stop → Type 0
 Prepares options before after (Ok ready) = IsReady options before after ready.0 ready.1.items
 Prepares options before after (Err stop) = StopsReading stop options before after
-
--- what `source` does
-pub record Sources (options : SourceOptions) (before after : Ends) (result : Result (String Global) Stop) : Type 0 where
-  pub file : List ℕ
-  pub told : IsFile before.input.left file
-  pub read : ReadsAtMost before.input.left after.input.left (source_ending options file).most
-  pub as_far : AttemptsAs (source_ending options file) before after result

@@ -1,11 +1,11 @@
--- What `source` is asked for.
-use Rattle.std.specs.Prelude.{ℕ, ◌≤◌, ◌<◌}
+-- What the commands are asked for.
+use Rattle.std.specs.Prelude.{ℕ, ◌≤◌, ◌<◌, Bool, List}
 use Rattle.bats_model.specs.Session.{SessionData}
 use Rattle.bats_tool.specs.declared.command.Command.{Command}
 use Rattle.bats_tool.specs.declared.command.Command.TheVariants as commands
 use Rattle.bats_tool.specs.declared.source.SourceOptions.{SourceOptions}
 
--- the numbers are in the ranges that words are held to
+-- the numbers of `source` are in the ranges that words are held to
 pub record HasRanges (options : SourceOptions) : Type 0 where
   pub m_low : 1 ≤ options.m
   pub m_high : options.m ≤ 32
@@ -27,7 +27,18 @@ session_for options file_length =
       seed = options.seed;
     }
 
--- what a command of `source` asks for
-abbrev pub options_of : Command → SourceOptions
-options_of (commands.Source m t table systematic seed first batches) =
+-- what a command `source` of these values asks for
+abbrev pub source_options : ℕ → ℕ → ℕ → Bool → List ℕ → ℕ → ℕ → SourceOptions
+source_options m t table systematic seed first batches =
     record { m = m; t = t; table = table; systematic = systematic; seed = seed; first = first; batches = batches }
+
+-- the number of workers is in the range that words are held to
+pub record HasWorkers (workers : ℕ) : Type 0 where
+  pub low : 1 ≤ workers
+  pub high : workers ≤ 64
+
+-- the numbers of a command are in the ranges that words are held to
+abbrev pub InRanges : Command → Type 0
+InRanges (commands.Source m t table systematic seed first batches) = HasRanges (source_options m t table systematic seed first batches)
+InRanges (commands.Sink workers both) = HasWorkers workers
+InRanges commands.Show = Unit {0}

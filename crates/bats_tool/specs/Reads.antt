@@ -4,7 +4,7 @@ use Rattle.std.specs.Global.{Global}
 use Rattle.bats_io.specs.Faults.{Rose}
 use Rattle.bats_tool.specs.declared.stop.Stop.{Stop}
 use Rattle.bats_tool.specs.declared.stop.Stop.TheVariants as stops
-use Rattle.bats_tool.specs.Streams.{InputState, IsRead, IsEnded, ReadsAtMost}
+use Rattle.bats_io.specs.Streams.{InputState, IsRead, IsEnded, ReadsAtMost}
 
 -- these bytes were read: all that there were, where they are at most so many, else that many and one more
 pub record ReadsUpTo (before after : InputState) (most : ℕ) (bytes : List ℕ) : Type 0 where

@@ -5,7 +5,7 @@ use Rattle.std.specs.Fmt.{decimal}
 use Rattle.bats_model.specs.Session.{SessionData, symbols_of}
 use Rattle.bats_model.specs.Batch.{batch_of}
 use Rattle.bats_model.specs.Coded.{coded_payload, unit_vector}
-use Rattle.bats_tool.specs.Records.{header_record, packet_record}
+use Rattle.bats_model.specs.Records.{header_record, packet_record}
 
 -- the record of coded packet j of a batch
 unfoldable pub coded_record : SessionData → List ℕ → ℕ → ℕ → List ℕ

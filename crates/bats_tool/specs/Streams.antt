@@ -1,16 +1,5 @@
 -- The streams of a run as clauses see them, before and after it.
-use Rattle.std.specs.Prelude.{◌≡◌, ◌≤◌, ℕ, Bool, List, [], ◌++◌, length, Option, Some, None}
-
--- an input: the bytes left, where it tells them, and how often it failed
-pub record InputState : Type 0 where
-  pub left : Option (List ℕ)
-  pub faults : ℕ
-
--- an output: the bytes written, where it tells them, whether they were flushed, and how often it failed
-pub record OutputState : Type 0 where
-  pub written : Option (List ℕ)
-  pub flushed : Bool
-  pub faults : ℕ
+use Rattle.bats_io.specs.Streams.{InputState, OutputState}
 
 -- the three streams of a run
 pub record Streams : Type 0 where
@@ -18,23 +7,7 @@ pub record Streams : Type 0 where
   pub output : OutputState
   pub notes : OutputState
 
--- the file is what the input tells, where it tells its bytes
-abbrev pub IsFile : Option (List ℕ) → List ℕ → Type 0
-IsFile None file = Unit {0}
-IsFile (Some bytes) file = bytes ≡ file
-
--- these bytes were read
-abbrev pub IsRead : Option (List ℕ) → Option (List ℕ) → List ℕ → Type 0
-IsRead None new bytes = new ≡ None
-IsRead (Some left) new bytes = (rest : List ℕ) × (new ≡ Some rest) × (left ≡ bytes ++ rest)
-
--- no byte is left
-abbrev pub IsEnded : Option (List ℕ) → Type 0
-IsEnded None = Unit {0}
-IsEnded (Some bytes) = bytes ≡ []
-
--- at most so many bytes were read
-pub record ReadsAtMost (before after : Option (List ℕ)) (most : ℕ) : Type 0 where
-  pub bytes : List ℕ
-  pub read : IsRead before after bytes
-  pub within : length bytes ≤ most
+-- an input and an output at one moment
+pub record Ends : Type 0 where
+  pub input : InputState
+  pub output : OutputState

@@ -5,7 +5,7 @@ use Rattle.std.specs.Str.{bytes_eq}
 use Rattle.bats_tool.specs.WordItems.{KnownNames, read_items, value_of, is_there}
 use Rattle.bats_tool.specs.WordValues.{number_in, seed_of}
 use Rattle.bats_tool.specs.declared.command.Command.{Command}
-use Rattle.bats_tool.specs.declared.command.Command.TheVariants.{Source}
+use Rattle.bats_tool.specs.declared.command.Command.TheVariants.{Source, Sink, Show}
 
 -- the second step, if the first gave a value
 infixl 10 ◌>>=◌
@@ -43,6 +43,29 @@ source_of value flag = do
   first ← read_or 0 (number_in 0 4000000000) (value (codes "--from"))
   Some (Source m t table (flag (codes "--systematic")) seed first batches)
 
+-- ---- sink
+
+-- the names of `sink`
+abbrev pub sink_names : KnownNames
+sink_names = record { options = codes "--workers" ∷ []; flags = codes "--both" ∷ [] }
+
+-- The command `sink`: how many workers, 1 where the option is not there, and whether both files are written, which is
+-- off where the flag is not there.
+unfoldable pub sink_of : (List ℕ → Option (List ℕ)) → (List ℕ → Bool) → Option Command
+sink_of value flag = do
+  workers ← read_or 1 (number_in 1 64) (value (codes "--workers"))
+  Some (Sink workers (flag (codes "--both")))
+
+-- ---- show
+
+-- `show` has no names
+abbrev pub show_names : KnownNames
+show_names = record { options = []; flags = [] }
+
+-- The command `show`, which no word changes.
+unfoldable pub show_of : (List ℕ → Option (List ℕ)) → (List ℕ → Bool) → Option Command
+show_of value flag = Some Show
+
 -- ---- every command
 
 -- the command that the words are, the first of which is its name
@@ -50,4 +73,6 @@ unfoldable pub command_of : List (List ℕ) → Option Command
 command_of [] = None
 command_of (name ∷ words) =
     if bytes_eq name (codes "source") then read_by source_names source_of words
+    else if bytes_eq name (codes "sink") then read_by sink_names sink_of words
+    else if bytes_eq name (codes "show") then read_by show_names show_of words
     else None

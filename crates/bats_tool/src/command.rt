@@ -20,4 +20,13 @@ pub enum Command {
         /// How many batches, from the first on.
         batches: u32,
     },
+    /// Solves for the file of a session from the packets that are read.
+    Sink {
+        /// How many workers share the solving, 1 to 64.
+        workers: u32,
+        /// Whether both files are written where two agree.
+        both: bool,
+    },
+    /// Writes a line for each record that is read.
+    Show,
 }

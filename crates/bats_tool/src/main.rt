@@ -1,14 +1,23 @@
 //! BATS codes with source, recoding relays and sink: the command line.
 #![tactic(auto)]
 
-ghost use Rattle.std.specs.Prelude.{◌≡◌, ◌<◌};
+ghost use Rattle.std.specs.Prelude.{◌≡◌, ◌<◌, map, string_bytes};
+ghost use Rattle.bats_tool.specs.Words.{command_of};
+ghost use Rattle.bats_tool.specs.Run.{IsRun};
 
+mod answers;
 mod command;
+mod finish;
+mod laws;
 mod read;
+mod receive;
 mod records;
+mod refusals;
 mod refuse;
 mod report;
 mod run;
+mod show;
+mod sink;
 mod source;
 mod status;
 mod stop;
@@ -21,7 +30,7 @@ use gf_rows::Steps;
 use run::run;
 use status::Status;
 use std::alloc::Global;
-use std::io::{BufWriter, Read, Write};
+use std::io::{BufReader, BufWriter, Read, Write};
 use std::marker::Brand;
 use std::process::ExitCode;
 use std::rt::Env;
@@ -29,12 +38,17 @@ use std::sync::ledger::{Blank, Ledger};
 use std::thread::Threads;
 use std::{env, io};
 
+// Bytes of the buffer for the standard input.
+const INPUT_BUFFER: usize = 65536;
+
 // Runs the program with counters that begin at 0.
 fn run_counted<R: Threads + Sync, S: Source, O: Sink, N: Sink, C: Ledger, L: Ledger>(
     rt: &R,
     alloc: Global,
     words: &Vec<String>,
-    streams: (&mut S, &mut O, &mut N),
+    input: &mut S,
+    output: &mut O,
+    notes: &mut N,
     counters: (Blank, Blank),
 ) -> Status
     requires coef_name { counters.0.name ≡ C.name }
@@ -43,8 +57,19 @@ fn run_counted<R: Threads + Sync, S: Source, O: Sink, N: Sink, C: Ledger, L: Led
     requires name { counters.1.name ≡ L.name }
     requires parts { counters.1.parts ≡ L.parts }
     requires some { 0 < counters.1.parts }
+    ensures { IsRun (command_of (map string_bytes words.now.items))
+        (record {
+          input = record { left = S.left input.old; faults = S.faults input.old };
+          output = record { written = O.written output.old; flushed = O.flushed output.old; faults = O.faults output.old };
+          notes = record { written = N.written notes.old; flushed = N.flushed notes.old; faults = N.faults notes.old };
+        })
+        (record {
+          input = record { left = S.left input.new; faults = S.faults input.new };
+          output = record { written = O.written output.new; flushed = O.flushed output.new; faults = O.faults output.new };
+          notes = record { written = N.written notes.new; flushed = N.flushed notes.new; faults = N.faults notes.new };
+        })
+        result }
 {
-    let (input, output, notes) = streams;
     let (coef_blank, blank) = counters;
     let mut coef_steps = Steps::<C>::new(coef_blank);
     let mut steps = Steps::<L>::new(blank);
@@ -68,9 +93,22 @@ fn run_over<R: Threads + Sync, S: Source, O: Sink, N: Sink>(
     input: &mut S,
     output: &mut O,
     notes: &mut N,
-) -> Status {
+) -> Status
+    ensures { IsRun (command_of (map string_bytes words.now.items))
+        (record {
+          input = record { left = S.left input.old; faults = S.faults input.old };
+          output = record { written = O.written output.old; flushed = O.flushed output.old; faults = O.faults output.old };
+          notes = record { written = N.written notes.old; flushed = N.flushed notes.old; faults = N.faults notes.old };
+        })
+        (record {
+          input = record { left = S.left input.new; faults = S.faults input.new };
+          output = record { written = O.written output.new; flushed = O.flushed output.new; faults = O.faults output.new };
+          notes = record { written = N.written notes.new; flushed = N.flushed notes.new; faults = N.faults notes.new };
+        })
+        result }
+{
     let counters = (Blank::new(1), Blank::new(1));
-    run_counted::<R, S, O, N, Brand, Brand>(rt, alloc, words, (input, output, notes), counters)
+    run_counted::<R, S, O, N, Brand, Brand>(rt, alloc, words, input, output, notes, counters)
 }
 
 // The words after the program's name. Words that are no text are no command, as are no words.
@@ -82,7 +120,8 @@ fn words_of<R: Env + AllocGlobal>(rt: &R) -> io::Result<Vec<String>> {
     }
 }
 
-// Runs the program on its own words, with a buffer before the output.
+// Runs the program on its own words, with a buffer behind the input, whose records are read in small parts, and one
+// before the output.
 fn run_process<R: Threads + Sync + Env + AllocGlobal, I: Read, O: Write, N: Write>(
     rt: &R,
     input: I,
@@ -96,6 +135,7 @@ where
 {
     let alloc = rt.alloc();
     let words = words_of(rt)?;
+    let input = BufReader::with_capacity(alloc, INPUT_BUFFER, input)?;
     let output = BufWriter::new(alloc, output)?;
     let mut input = StdSource::new(input);
     let mut output = StdSink::new(output);

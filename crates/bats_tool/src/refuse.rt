@@ -1,4 +1,4 @@
-ghost use Rattle.bats_tool.specs.Ending.{RefusesBy};
+ghost use Rattle.bats_tool.specs.Run.{RefusesBy};
 
 use crate::report::report;
 use crate::status::Status;

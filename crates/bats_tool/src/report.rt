@@ -1,4 +1,4 @@
-ghost use Rattle.bats_tool.specs.Ending.{Reports};
+ghost use Rattle.bats_tool.specs.Run.{Reports};
 
 use crate::status::Status;
 use bats_io::{Sink, write_whole};

@@ -1,12 +1,14 @@
-ghost use Rattle.std.specs.Prelude.{◌≡◌, map, string_bytes, Some};
+ghost use Rattle.std.specs.Prelude.{map, string_bytes};
 ghost use Rattle.bats_tool.specs.Words.{command_of};
-ghost use Rattle.bats_tool.specs.Options.{options_of};
-ghost use Rattle.bats_tool.specs.Ending.{IsRun};
+ghost use Rattle.bats_tool.specs.Run.{IsRun};
 ghost use Rattle.bats_tool.specs.Attempt.{Attempts};
 
 use crate::command::Command;
+use crate::finish::Finish;
 use crate::refuse::refuse;
 use crate::report::report;
+use crate::show::show;
+use crate::sink::sink;
 use crate::source::{SourceOptions, source};
 use crate::status::Status;
 use crate::stop::Stop;
@@ -17,38 +19,16 @@ use std::alloc::Global;
 use std::sync::ledger::Ledger;
 use std::thread::Threads;
 
-// What a command of `source` asks for.
-fn options(command: &Command) -> SourceOptions
-    ensures { result ≡ options_of command.now }
-{
-    match *command {
-        Command::Source {
-            m,
-            t,
-            table,
-            systematic,
-            seed,
-            first,
-            batches,
-        } => SourceOptions {
-            m,
-            t,
-            table,
-            systematic,
-            seed,
-            first,
-            batches,
-        },
-    }
-}
-
 // Does what the words ask for, up to the notes line.
-fn attempt<S: Source, O: Sink>(
+fn attempt<R: Threads + Sync, S: Source, O: Sink, C: Ledger, L: Ledger>(
+    rt: &R,
     alloc: Global,
     words: &Vec<String>,
     input: &mut S,
     output: &mut O,
-) -> Result<String, Stop>
+    coef_steps: &mut Steps<C>,
+    steps: &mut Steps<L>,
+) -> Result<Finish, Stop>
     ensures { Attempts (command_of (map string_bytes words.now.items))
         (record {
           input = record { left = S.left input.old; faults = S.faults input.old };
@@ -61,21 +41,46 @@ fn attempt<S: Source, O: Sink>(
         result }
 {
     match parse(words) {
-        Some(command) => source(alloc, &options(&command), input, output),
+        Some(
+            Command::Source {
+                m,
+                t,
+                table,
+                systematic,
+                seed,
+                first,
+                batches,
+            },
+        ) => {
+            let options = SourceOptions {
+                m,
+                t,
+                table,
+                systematic,
+                seed,
+                first,
+                batches,
+            };
+            source(alloc, &options, input, output)
+        }
+        Some(Command::Sink { workers, both }) => sink(
+            rt, alloc, workers, both, input, output, coef_steps, steps,
+        ),
+        Some(Command::Show) => show(alloc, input, output),
         None => Err(Stop::Usage),
     }
 }
 
 /// Runs the program on the words after its name: reads the input, writes and flushes the output, then the notes.
 pub fn run<R: Threads + Sync, S: Source, O: Sink, N: Sink, C: Ledger, L: Ledger>(
-    _rt: &R,
+    rt: &R,
     alloc: Global,
     words: &Vec<String>,
     input: &mut S,
     output: &mut O,
     notes: &mut N,
-    _coef_steps: &mut Steps<C>,
-    _steps: &mut Steps<L>,
+    coef_steps: &mut Steps<C>,
+    steps: &mut Steps<L>,
 ) -> Status
     ensures { IsRun (command_of (map string_bytes words.now.items))
         (record {
@@ -90,8 +95,8 @@ pub fn run<R: Threads + Sync, S: Source, O: Sink, N: Sink, C: Ledger, L: Ledger>
         })
         result }
 {
-    match attempt(alloc, words, input, output) {
-        Ok(line) => report(notes, line.as_bytes(), Status::Done),
+    match attempt(rt, alloc, words, input, output, coef_steps, steps) {
+        Ok(finish) => report(notes, finish.line.as_bytes(), finish.status),
         Err(stop) => refuse(output, notes, stop),
     }
 }

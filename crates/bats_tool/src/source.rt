@@ -1,14 +1,16 @@
-ghost use Rattle.std.specs.Prelude.{◌≡◌, ◌+◌, ◌^◌, ◌<◌, ◌≤◌, string_bytes, true, IfOk, OnOk, IfErr, OnErr};
+ghost use Rattle.std.specs.Prelude.{◌≡◌, ◌+◌, ◌^◌, ◌<◌, ◌≤◌, string_bytes, true, Some, IfOk, OnOk, IfErr, OnErr};
 ghost use Rattle.std.specs.Result.{result_err};
 ghost use Rattle.bats_model.specs.Session.{symbols_of};
 ghost use Rattle.bats_model.specs.Batch.{batch_of};
 ghost use Rattle.bats_tool.specs.Source.{coded_record, batch_records, packet_records, source_output, source_line, counts_line};
 ghost use Rattle.bats_tool.specs.Options.{HasRanges, session_for};
 ghost use Rattle.bats_tool.specs.Writes.{Writes};
-ghost use Rattle.bats_tool.specs.Attempt.{Sources, Prepares};
+ghost use Rattle.bats_tool.specs.Attempt.{Attempts, Prepares, source_command};
 
+use crate::finish::Finish;
 use crate::read::read_file;
 use crate::records::{write_header, write_packet};
+use crate::status::Status;
 use crate::stop::Stop;
 use bats_encoder::Encoder;
 use bats_io::{Sink, Source};
@@ -35,17 +37,19 @@ pub struct SourceOptions {
 // Writes the record of coded packet j of a batch.
 fn write_coded<O: Sink>(
     output: &mut O,
+    session: &Session,
     encoder: &Encoder,
     batch: &Batch,
     j: u32,
 ) -> Result<(), Stop>
+    requires session { encoder.now.session ≡ session.now }
     requires batch { batch.now ≡ batch_of encoder.now.session batch.now.number }
     requires column { j < encoder.now.session.m }
     ensures { Writes (O.written output.old) (O.written output.new) (O.faults output.old) (O.faults output.new)
         (coded_record encoder.now.session encoder.now.file batch.now.number j) (result_err result) }
 {
     let packet = encoder.coded(batch, j)?;
-    write_packet(output, &packet)
+    write_packet(output, session, &packet)
 }
 
 // Writes the records of the coded packets of a batch, columns rising.
@@ -61,7 +65,7 @@ fn write_batch<O: Sink>(
         (batch_records encoder.now.session encoder.now.file batch.now.number) (result_err result) }
 {
     for j in 0..u32::from(session.m()) {
-        write_coded(output, encoder, batch, j)?;
+        write_coded(output, session, encoder, batch, j)?;
     }
     Ok(())
 }
@@ -188,15 +192,15 @@ fn read_session<S: Source>(
     Ok((session, file))
 }
 
-/// Does `source`: the whole output is written and flushed, and the answer is the notes line.
+/// Does `source`: the whole output is written and flushed.
 pub fn source<S: Source, O: Sink>(
     alloc: Global,
     options: &SourceOptions,
     input: &mut S,
     output: &mut O,
-) -> Result<String, Stop>
+) -> Result<Finish, Stop>
     requires { HasRanges options.now }
-    ensures { Sources options.now
+    ensures { Attempts (Some (source_command options.now))
         (record {
           input = record { left = S.left input.old; faults = S.faults input.old };
           output = record { written = O.written output.old; flushed = O.flushed output.old; faults = O.faults output.old };
@@ -219,7 +223,10 @@ pub fn source<S: Source, O: Sink>(
                 options.first,
                 options.batches,
             )?;
-            Ok(line)
+            Ok(Finish {
+                status: Status::Done,
+                line,
+            })
         }
         Err(_) => unreachable!(),
     }

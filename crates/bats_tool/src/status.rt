@@ -6,9 +6,15 @@ ghost use Rattle.bats_tool.specs.Status.{code_of};
 pub enum Status {
     /// The command did what it is defined to do.
     Done = 0,
+    /// Two files agree with all packets.
+    NeedMore = 1,
+    /// No file agrees with all packets.
+    Inconsistent = 2,
     /// The words are no command.
     Usage = 3,
-    /// The file has more than 4,096 symbols.
+    /// The input is no packet file.
+    Input = 4,
+    /// The file has more than 4,096 symbols, or the input goes on after 1,048,576 records.
     Limit = 5,
     /// A read of the input failed.
     ReadFault = 6,
@@ -16,6 +22,8 @@ pub enum Status {
     WriteFault = 7,
     /// Memory ran out.
     Memory = 8,
+    /// The input has a packet that the command can't take yet.
+    NotBuilt = 10,
 }
 
 impl Status {

@@ -3,6 +3,7 @@ ghost use Rattle.std.specs.Prelude.{◌≡◌, map, string_bytes};
 ghost use Rattle.bats_tool.specs.WordItems.{is_among};
 ghost use Rattle.bats_tool.specs.WordLookup.{word_after};
 ghost use Rattle.bats_tool.specs.Words.{command_of, read_by, source_of, source_names};
+ghost use Rattle.bats_tool.specs.Words.{sink_of, sink_names, show_of, show_names};
 
 mod items;
 mod options;
@@ -18,10 +19,12 @@ pub fn parse(words: &Vec<String>) -> Option<Command>
     ensures { result ≡ command_of (map string_bytes words.now.items) }
 {
     let (name, rest) = words.split_first()?;
-    if name.as_str() == "source" {
-        return source(rest);
+    match name.as_str() {
+        "source" => source(rest),
+        "sink" => sink(rest),
+        "show" => show(rest),
+        _ => None,
     }
-    None
 }
 
 // The names of `source`.
@@ -60,6 +63,49 @@ fn source_of(words: &[String]) -> Option<Command>
         first: first as u32,
         batches: batches as u32,
     })
+}
+
+// The names of `sink`.
+const SINK: Names = Names {
+    options: &["--workers"],
+    flags: &["--both"],
+};
+
+fn sink(words: &[String]) -> Option<Command>
+    ensures { result ≡ read_by sink_names sink_of (map string_bytes words.now) }
+{
+    if !are_read(&SINK, words) {
+        return None;
+    }
+    sink_of(words)
+}
+
+// The command of words that are options and flags of `sink`, none of them twice.
+#[tactic(auto, unfolding(crate::specs::Words::sink_of))]
+fn sink_of(words: &[String]) -> Option<Command>
+    ensures { let texts = map string_bytes words.now in
+        result ≡ sink_of (λ name. word_after name texts) (is_among texts) }
+{
+    let workers = number_or(1, "--workers", words, 1, 64)?;
+    Some(Command::Sink {
+        workers: workers as u32,
+        both: has("--both", words),
+    })
+}
+
+// `show` has no names.
+const SHOW: Names = Names {
+    options: &[],
+    flags: &[],
+};
+
+fn show(words: &[String]) -> Option<Command>
+    ensures { result ≡ read_by show_names show_of (map string_bytes words.now) }
+{
+    if !are_read(&SHOW, words) {
+        return None;
+    }
+    Some(Command::Show)
 }
 
 #[cfg(test)]
@@ -147,6 +193,25 @@ mod tests {
     }
 
     #[test]
+    fn reads_sink_and_show(rt: HostRuntime) -> Result<(), Fail> {
+        for (line, workers, both) in [
+            ("sink", 1, false),
+            ("sink --workers 1", 1, false),
+            ("sink --workers 64 --both", 64, true),
+            ("sink --both --workers 007", 7, true),
+            ("sink --both", 1, true),
+        ] {
+            assert_eq!(rt;
+                parsed(&rt, line)?,
+                Some(Command::Sink { workers, both }),
+                "at {line}"
+            );
+        }
+        assert_eq!(rt; parsed(&rt, "show")?, Some(Command::Show));
+        Ok(())
+    }
+
+    #[test]
     fn refuses_other_words(rt: HostRuntime) -> Result<(), Fail> {
         assert_eq!(rt; parse(&Vec::new(rt.alloc())), None);
         for line in [
@@ -154,6 +219,9 @@ mod tests {
             "source",
             "sourc",
             "sync",
+            "sinks",
+            "help",
+            "relay",
             "Source --m 2 --t 2 --seed 00112233445566778899aabbccddeeff --batches 1",
             "--m 2 source --t 2 --seed 00112233445566778899aabbccddeeff --batches 1",
             // An option that is missing.
@@ -200,6 +268,20 @@ mod tests {
             "source --m 2 --t 2 --seed 00112233445566778899aabbccddeeff0 --batches 1",
             "source --m 2 --t 2 --seed 00112233445566778899aabbccddeefg --batches 1",
             "source --m 2 --t 2 --seed 0x112233445566778899aabbccddeeff --batches 1",
+            // Other words of `sink`, and words after `show`.
+            "sink --workers",
+            "sink --workers --both",
+            "sink --workers 0",
+            "sink --workers 65",
+            "sink --workers=2",
+            "sink --workers 2 --workers 2",
+            "sink --both --both",
+            "sink --both 2",
+            "sink x",
+            "sink --m 2",
+            "show --both",
+            "show x",
+            "show ",
         ] {
             assert_eq!(rt; parsed(&rt, line)?, None, "at {line}");
         }

@@ -13,7 +13,7 @@ new-requires c =
     let degree : ℕ = c.min-degree.result in
     let columns : c.from.result ≡ c.m-2.result = c.from.ensures ∙ c.m.ensures.value ∙ sym c.m-2.ensures.value in
     let entries : c.from-3.result ≡ bytes_from key (4 * (1 + degree)) (degree * c.m-2.result) =
-    c.from-3.ensures ∙ c.in_ok-entries.ensures
+    c.from-3.ensures ∙ c.in_ok-entries.ensures.bytes
     ∙ ap (λ (w : KeyPlace). bytes_from w.key (4 * w.place) (degree * c.from.result)) c.in_ok-numbers.ensures.after
     ∙ ap (λ m. bytes_from key (4 * (1 + degree)) (degree * m)) columns in
     let limits = c.m-2.ensures.within in
@@ -44,7 +44,7 @@ returns c =
     c.min-degree.ensures ∙ ap (λ d. min d c.symbols-symbols.result) first
     ∙ ap (λ k. min (degree_at (degree_table s.table) (pick (key_word key 0) 1000)) k) symbols in
     let entries : c.from-3.result ≡ bytes_from key (4 * (1 + degree)) (degree * s.m) =
-    c.from-3.ensures ∙ c.in_ok-entries.ensures
+    c.from-3.ensures ∙ c.in_ok-entries.ensures.bytes
     ∙ ap (λ (w : KeyPlace). bytes_from w.key (4 * w.place) (degree * c.from.result)) c.in_ok-numbers.ensures.after
     ∙ ap (λ m. bytes_from key (4 * (1 + degree)) (degree * m)) columns in
     let contributors : c.from-2.result ≡ drawn key (symbols_of s) degree =

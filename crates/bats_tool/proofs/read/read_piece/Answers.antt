@@ -1,6 +1,6 @@
 use Rattle.std.proofs.Common.{take, arith, length-take}
 use Rattle.std.proofs.lemmas.Result.{err_from_is_err_and}
-use Rattle.bats_tool.proofs.Reading.{IsRead-takes}
+use Rattle.bats_io.proofs.ReadLemmas.{IsRead-takes}
 use Rattle.bats_tool.proofs.read.read_piece.Goals as goal
 
 pub returns-in_err-extend_from_slice-in-Ok : goal.returns-in_err-extend_from_slice-in-Ok

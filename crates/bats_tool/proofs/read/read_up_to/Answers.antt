@@ -1,5 +1,5 @@
 use Rattle.std.proofs.Common.{◌+◌, ◌-◌, arith}
-use Rattle.bats_tool.proofs.Reading.{Reads-exit}
+use Rattle.bats_tool.proofs.FileReading.{Reads-exit}
 use Rattle.bats_tool.proofs.read.read_up_to.Goals as goal
 
 pub returns-in_err-read_piece : goal.returns-in_err-read_piece

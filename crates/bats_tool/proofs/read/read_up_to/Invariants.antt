@@ -1,5 +1,5 @@
 use Rattle.std.proofs.Common.{◌≡◌, ◌+◌, ◌-◌, ◌≤◌, vec_len}
-use Rattle.bats_tool.specs.Streams.{IsRead}
+use Rattle.bats_io.specs.Streams.{IsRead}
 use Rattle.bats_tool.proofs.read.read_up_to.Given as goal
 
 abbrev pub invariant-loop-file : goal.invariant-loop-file

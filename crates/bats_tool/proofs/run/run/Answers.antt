@@ -1,7 +1,6 @@
 use Rattle.std.proofs.Common.{map, subst, List, ℕ}
 use Rattle.std.specs.Prelude.{string_bytes}
-use Rattle.bats_tool.specs.declared.status.Status.TheVariants as statuses
-use Rattle.bats_tool.specs.Ending.{Reports}
+use Rattle.bats_tool.specs.Run.{Reports}
 use Rattle.bats_tool.specs.Words.{command_of}
 use Rattle.bats_tool.proofs.Outcomes.{IsRun-done, IsRun-refused}
 use Rattle.bats_tool.proofs.run.run.Goals as goal
@@ -11,11 +10,11 @@ returns-in-Ok g c =
     IsRun-done (command_of (map string_bytes c.args.words.now.items)) _ _
     (record { written = g.N.Sink.written c.args.notes.now; flushed = g.N.Sink.flushed c.args.notes.now; faults = g.N.Sink.faults c.args.notes.now })
     (record { written = g.N.Sink.written c.report.new.notes; flushed = g.N.Sink.flushed c.report.new.notes; faults = g.N.Sink.faults c.report.new.notes })
-    c.in-Ok.line c.report.result c.in-Ok.ensures
+    c.in-Ok.finish c.report.result c.in-Ok.ensures
     (subst (λ (line : List ℕ). Reports
     (record { written = g.N.Sink.written c.args.notes.now; flushed = g.N.Sink.flushed c.args.notes.now; faults = g.N.Sink.faults c.args.notes.now })
     (record { written = g.N.Sink.written c.report.new.notes; flushed = g.N.Sink.flushed c.report.new.notes; faults = g.N.Sink.faults c.report.new.notes })
-    line statuses.Done c.report.result) c.as_bytes.ensures.value c.report.ensures)
+    line c.in-Ok.finish.status c.report.result) c.as_bytes.ensures.value c.report.ensures)
 
 pub returns-in-Err : goal.returns-in-Err
 returns-in-Err g c =

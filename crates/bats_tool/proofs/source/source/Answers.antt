@@ -1,10 +1,16 @@
-use Rattle.std.proofs.Common.{◌≡◌, ◌∙◌, ap, sym, ℕ, List}
+use Rattle.std.proofs.Common.{◌≡◌, ◌∙◌, ap, sym, refl, ℕ, List}
 use Rattle.bats_model.specs.Session.{SessionData}
 use Rattle.bats_encoder.specs.Encoder.{EncoderData}
 use Rattle.bats_tool.specs.Source.{source_output}
 use Rattle.bats_tool.proofs.Writing.{Writes-same}
-use Rattle.bats_tool.proofs.Sourcing.{Sources-cut_short, Sources-done}
+use Rattle.bats_tool.proofs.Sourcing.{Attempts-stopped, Attempts-cut_short, Attempts-done}
 use Rattle.bats_tool.proofs.source.source.Goals as goal
+
+pub returns-in_err-session : goal.returns-in_err-session
+returns-in_err-session g c =
+    Attempts-stopped c.args.options.now _ _
+    (record { written = g.O.Sink.written c.args.output.now; flushed = g.O.Sink.flushed c.args.output.now; faults = g.O.Sink.faults c.args.output.now })
+    c.in_err-session.field-0.0 _ c.in_err-session.ensures c.from_residual.ensures.1
 
 pub returns-in_err-write_output-in-Ok : goal.returns-in_err-write_output-in-Ok
 returns-in_err-write_output-in-Ok g c =
@@ -15,7 +21,7 @@ returns-in_err-write_output-in-Ok g c =
     ≡ source_output c.in-Ok.encoder.session c.in-Ok.encoder.file o.first o.batches =
     sym (ap (λ (s : SessionData). source_output s c.in-Ok.encoder.file o.first o.batches) encoded
     ∙ ap (λ (bytes : List ℕ). source_output c.in_ok-session.session bytes o.first o.batches) file) in
-    Sources-cut_short o _ _
+    Attempts-cut_short o _ _
     (record { written = g.O.Sink.written c.args.output.now; flushed = g.O.Sink.flushed c.args.output.now; faults = g.O.Sink.faults c.args.output.now })
     (record { written = g.O.Sink.written c.write_output.new.output; flushed = g.O.Sink.flushed c.write_output.new.output; faults = g.O.Sink.faults c.write_output.new.output })
     c.in_ok-session.session c.in_ok-session.file.items c.in_err-write_output-in-Ok.field-0.0 _
@@ -31,9 +37,9 @@ returns g c =
     ≡ source_output c.in-Ok.encoder.session c.in-Ok.encoder.file o.first o.batches =
     sym (ap (λ (s : SessionData). source_output s c.in-Ok.encoder.file o.first o.batches) encoded
     ∙ ap (λ (bytes : List ℕ). source_output c.in_ok-session.session bytes o.first o.batches) file) in
-    Sources-done o _ _
+    Attempts-done o _ _
     (record { written = g.O.Sink.written c.args.output.now; flushed = g.O.Sink.flushed c.args.output.now; faults = g.O.Sink.faults c.args.output.now })
     (record { written = g.O.Sink.written c.write_output.new.output; flushed = g.O.Sink.flushed c.write_output.new.output; faults = g.O.Sink.faults c.write_output.new.output })
-    c.in_ok-session.session c.in_ok-session.file.items c.in_ok-line.line
+    c.in_ok-session.session c.in_ok-session.file.items _
     c.in_ok-session.ensures (Writes-same output c.in_ok-write_output-in-Ok.ensures.written)
-    c.in_ok-write_output-in-Ok.ensures.flushed c.in_ok-line.ensures
+    c.in_ok-write_output-in-Ok.ensures.flushed refl c.in_ok-line.ensures

@@ -1,10 +1,25 @@
-use Rattle.std.proofs.Common.{◌≡◌, ◌∙◌, ap, sym, refl, List, ℕ}
+use Rattle.std.proofs.Common.{◌≡◌, ◌∙◌, ap, sym, refl, List, length, ℕ}
+use Rattle.bats_model.specs.Session.{SessionData}
 use Rattle.bats_model.specs.Batch.{BatchData, batch_of}
 use Rattle.bats_model.specs.Coded.{coded_payload, unit_vector}
 use Rattle.bats_tool.specs.Source.{coded_record}
-use Rattle.bats_tool.specs.Records.{packet_record}
+use Rattle.bats_model.specs.Records.{packet_record}
+use Rattle.bats_model.proofs.UnitVectors.{length-unit_vector}
+use Rattle.bats_encoder.proofs.Agreements.{length-coded_payload}
 use Rattle.bats_tool.proofs.Writing.{Writes-nothing, Writes-same, Writes-exit_memory}
 use Rattle.bats_tool.proofs.source.write_coded.Goals as goal
+
+pub write_packet-requires-clause-coefs : goal.write_packet-requires-clause-coefs
+write_packet-requires-clause-coefs g c =
+    let s = c.args.encoder.now.session in
+    ap (λ (v : List ℕ). length v) c.in_ok-packet.ensures.coefs ∙ length-unit_vector s.m c.args.j
+    ∙ ap (λ (z : SessionData). z.m) c.requires.session
+
+pub write_packet-requires-clause-payload : goal.write_packet-requires-clause-payload
+write_packet-requires-clause-payload g c =
+    let s = c.args.encoder.now.session in
+    ap (λ (v : List ℕ). length v) c.in_ok-packet.ensures.payload
+    ∙ length-coded_payload s c.args.encoder.now.file c.args.batch.now c.args.j ∙ ap (λ (z : SessionData). z.t) c.requires.session
 
 pub returns-in_err-packet : goal.returns-in_err-packet
 returns-in_err-packet g c =

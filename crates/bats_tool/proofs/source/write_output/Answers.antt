@@ -1,7 +1,7 @@
 use Rattle.std.proofs.Common.{◌≡◌, ◌++◌, ◌∙◌, ap, sym, List, [], ℕ}
 use Rattle.std.proofs.lemmas.List.{append-nil}
 use Rattle.bats_model.specs.Session.{SessionData}
-use Rattle.bats_tool.specs.Records.{header_record}
+use Rattle.bats_model.specs.Records.{header_record}
 use Rattle.bats_tool.specs.Source.{source_output, packet_records}
 use Rattle.bats_tool.proofs.Writing.{Writes-after, Writes-same, Writes-exit, Writes-flushed, Writes-not_flushed}
 use Rattle.bats_tool.proofs.source.write_output.Goals as goal

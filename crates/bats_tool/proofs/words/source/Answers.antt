@@ -1,6 +1,6 @@
 use Rattle.std.proofs.Common.{string_bytes, map, sym, ◌∙◌}
 use Rattle.bats_tool.specs.Words.{source_of, source_names}
-use Rattle.bats_tool.proofs.SourceWords.{read_by-none, source_of-read}
+use Rattle.bats_tool.proofs.CommandWords.{read_by-none, read_by-some, source_of-items}
 use Rattle.bats_tool.proofs.words.source.Goals as goal
 
 pub returns-then-not-are_read : goal.returns-then-not-are_read
@@ -9,4 +9,5 @@ returns-then-not-are_read c =
 
 pub returns : goal.returns
 returns c =
-    c.source_of.ensures ∙ source_of-read (map string_bytes c.args.words.now) (sym c.are_read.ensures ∙ c.if-not-are_read.false)
+    c.source_of.ensures
+    ∙ read_by-some source_names source_of source_of-items (map string_bytes c.args.words.now) (sym c.are_read.ensures ∙ c.if-not-are_read.false)

@@ -11,7 +11,8 @@ OnErr-holds (Err e) P p = p
 pub returns-in_err-prepare-clause-err : goal.returns-in_err-prepare-clause-err
 returns-in_err-prepare-clause-err g c =
     OnErr-holds c.from_residual.result _ (λ packets h.
-    StandsFor-same packets c.args.self.now c.prepare.new.self c.prepare.ensures.session c.prepare.ensures.packets c.prepare.ensures.same h)
+    StandsFor-same packets c.args.self.now c.prepare.new.self c.prepare.ensures.session c.prepare.ensures.packets c.prepare.ensures.same
+    c.prepare.ensures.places h)
 
 pub returns-clause-ok : goal.returns-clause-ok
 returns-clause-ok g c packets h =
@@ -23,4 +24,5 @@ returns-clause-ok g c packets h =
     c.as_slice.result.now c.as_slice-2.result.now limits c.requires.plain c.in-Some.ensures.some c.as_slice.ensures.value c.requires.coefs
     c.as_slice-2.ensures.value (ap (λ (n : ℕ). c.args.packet.now.batch * n + c.in-Some.column) m)
     c.prepare.ensures.session c.receive.ensures.session c.prepare.ensures.packets c.receive.ensures.packets
-    c.prepare.ensures.same c.receive.ensures.fits h
+    c.prepare.ensures.same c.receive.ensures.fits c.prepare.ensures.places
+    (record { here = c.receive.ensures.here; elsewhere = c.receive.ensures.elsewhere }) h

@@ -1,0 +1,12 @@
+pub mod RecordLemmas
+pub mod PacketFiles
+pub mod Refusals
+pub mod Numbers
+pub mod Headers
+pub mod BrokenFields
+pub mod JoinedFiles
+pub mod EachInput
+pub mod Written
+pub mod Filled
+pub mod Reading
+pub mod NextItems

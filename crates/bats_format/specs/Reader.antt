@@ -1,0 +1,118 @@
+-- What a reader of packet files holds, which bytes it has read, and what its next answer is.
+use Rattle.std.specs.Prelude.{ℕ, ◌≡◌, ◌≤◌, ◌+◌, ◌⊎◌, Bool, true, false, List, [], ◌∷◌, ◌++◌, length, Option, Some, None, Result, Ok, Err, IsSome}
+use Rattle.bats_io.specs.Faults.{Rose}
+use Rattle.bats_io.specs.Streams.{InputState, IsTold, IsRead, IsEnded, ReadsAtMost}
+use Rattle.bats_model.specs.Session.{SessionData}
+use Rattle.bats_model.specs.PacketFile.{IsPacketFile, IsItemAt, record_of, most_records}
+use Rattle.bats_model.specs.Refusal.{RefusesHeader, RefusesRecord}
+use Rattle.bats_format.specs.Taking.{most_of_record}
+use Rattle.bats_model.specs.declared.item.Item.{Item}
+use Rattle.bats_model.specs.declared.read_end.ReadEnd.{ReadEnd}
+use Rattle.bats_model.specs.declared.read_end.ReadEnd.TheVariants as ends
+
+-- the session once the first header was read, how many records and bytes were read, whether the end of the input was
+-- answered, and the refusal that was answered
+pub record ReaderData : Type 0 where
+  pub session : Option SessionData
+  pub records : ℕ
+  pub offset : ℕ
+  pub ended : Bool
+  pub refused : Option ReadEnd
+
+-- with no session nothing was read
+abbrev pub BeginsAtNothing : Option SessionData → ℕ → ℕ → Type 0
+BeginsAtNothing None records offset = (records ≡ 0) × (offset ≡ 0)
+BeginsAtNothing (Some session) records offset = Unit {0}
+
+-- want of memory isn't answered again
+abbrev pub IsKept : Option ReadEnd → Type 0
+IsKept None = Unit {0}
+IsKept (Some ends.Memory) = ⊥
+IsKept (Some end) = Unit {0}
+
+-- the reader has read these bytes, which are nothing, or a packet file of its session and these items
+abbrev pub HasReadAs : Option SessionData → List ℕ → List Item → ReaderData → Type 0
+HasReadAs None bytes list reader = (bytes ≡ []) × (list ≡ [])
+HasReadAs (Some session) bytes list reader = IsPacketFile session list bytes
+
+pub record StandsFor (bytes : List ℕ) (list : List Item) (reader : ReaderData) : Type 0 where
+  pub read : HasReadAs reader.session bytes list reader
+  pub records : reader.records ≡ length list
+  pub offset : reader.offset ≡ length bytes
+
+-- the reader has answered neither a refusal nor the end
+pub record IsOpen (reader : ReaderData) : Type 0 where
+  pub not_ended : reader.ended ≡ false
+  pub not_refused : reader.refused ≡ None
+
+-- the next record was read, and nothing after it
+pub record GivesItem (before after : InputState) (reader reader' : ReaderData) (item : Item) : Type 0 where
+  pub was_open : IsOpen reader
+  pub is_open : IsOpen reader'
+  pub session : SessionData
+  pub session_is : reader'.session ≡ Some session
+  pub same_session : IsSome reader.session → reader.session ≡ Some session
+  pub place : IsItemAt session reader.offset item
+  pub counted : reader'.records ≡ reader.records + 1
+  pub few : reader'.records ≤ most_records
+  pub taken : IsRead before.left after.left (record_of session item)
+  pub no_fault : after.faults ≡ before.faults
+  pub stands : (bytes : List ℕ) (list : List Item) → StandsFor bytes list reader
+      → StandsFor (bytes ++ record_of session item) (list ++ item ∷ []) reader'
+
+-- the input ended after a whole record, or that was answered before
+pub record GivesEnd (before after : InputState) (reader reader' : ReaderData) : Type 0 where
+  pub not_refused : reader.refused ≡ None
+  pub ended : reader' ≡ record reader { ended = true }
+  pub nothing_left : reader.ended ≡ false → IsSome reader.session × IsEnded before.left
+  pub nothing_read : IsRead before.left after.left []
+  pub no_fault : after.faults ≡ before.faults
+
+-- the refusal was answered before: nothing was read
+pub record RefusesAgain (before after : InputState) (reader reader' : ReaderData) (end : ReadEnd) : Type 0 where
+  pub refused : reader.refused ≡ Some end
+  pub same : reader' ≡ reader
+  pub nothing_read : after ≡ before
+
+-- the input is refused so, after these items of the session, or at its first record
+abbrev pub RefusesAfter : Option SessionData → List Item → List ℕ → ReadEnd → Type 0
+RefusesAfter None list input end = RefusesHeader input end
+RefusesAfter (Some session) list input end = RefusesRecord input session list end
+
+-- the input, which is what was read and what was left, is refused so
+pub record RefusesInput (before after : InputState) (reader reader' : ReaderData) (end : ReadEnd) : Type 0 where
+  pub was_open : IsOpen reader
+  pub refused : reader' ≡ record reader { refused = Some end }
+  pub left : List ℕ
+  pub told : IsTold before.left left
+  pub is_refused : (bytes : List ℕ) (list : List Item) → StandsFor bytes list reader
+      → RefusesAfter reader.session list (bytes ++ left) end
+  pub read : ReadsAtMost before.left after.left most_of_record
+  pub no_fault : after.faults ≡ before.faults
+
+-- a read failed
+pub record CannotRead (before after : InputState) (reader reader' : ReaderData) : Type 0 where
+  pub was_open : IsOpen reader
+  pub refused : reader' ≡ record reader { refused = Some ends.ReadFault }
+  pub fault : Rose before.faults after.faults
+  pub read : ReadsAtMost before.left after.left most_of_record
+
+-- memory ran out, before anything was read
+pub record LacksMemory (before after : InputState) (reader reader' : ReaderData) : Type 0 where
+  pub was_open : IsOpen reader
+  pub same : reader' ≡ reader
+  pub nothing_read : after ≡ before
+
+-- a refusal
+abbrev pub Refuses : InputState → InputState → ReaderData → ReaderData → ReadEnd → Type 0
+Refuses before after reader reader' ends.Memory = LacksMemory before after reader reader'
+Refuses before after reader reader' ends.ReadFault =
+    RefusesAgain before after reader reader' ends.ReadFault ⊎ CannotRead before after reader reader'
+Refuses before after reader reader' end =
+    RefusesAgain before after reader reader' end ⊎ RefusesInput before after reader reader' end
+
+-- what the next answer of a reader is
+abbrev pub Nexts : InputState → InputState → ReaderData → ReaderData → Result (Option Item) ReadEnd → Type 0
+Nexts before after reader reader' (Ok (Some item)) = GivesItem before after reader reader' item
+Nexts before after reader reader' (Ok None) = GivesEnd before after reader reader'
+Nexts before after reader reader' (Err end) = Refuses before after reader reader' end

@@ -1,0 +1,149 @@
+-- What the reading of one record leaves of a source, and what its answer is.
+use Rattle.std.specs.Prelude.{ℕ, ◌≡◌, ◌≢◌, ◌<◌, ◌≤◌, List, [], ◌∷◌, ◌++◌, length, take, Option, Some, None, Result, Ok, Err}
+use Rattle.bats_io.specs.Faults.{Rose}
+use Rattle.bats_io.specs.Streams.{InputState, IsTold, IsRead, IsEnded, ReadsAtMost}
+use Rattle.bats_model.specs.Session.{SessionData, IsSession}
+use Rattle.bats_model.specs.Records.{header_record, header_tag, packet_tag}
+use Rattle.bats_model.specs.PacketFile.{IsItemAt, record_of, most_records}
+use Rattle.bats_model.specs.Refusal.{RefusesHeader, header_size, first_refusal}
+use Rattle.bats_model.specs.declared.item.Item.{Item}
+use Rattle.bats_model.specs.declared.read_end.ReadEnd.{ReadEnd}
+use Rattle.bats_model.specs.declared.read_end.ReadEnd.TheVariants as ends
+use Rattle.bats_format.specs.Filling.{FailsWithin}
+use Rattle.bats_format.specs.declared.records.Tag.{Tag}
+use Rattle.bats_format.specs.declared.records.Tag.TheVariants as tags
+
+-- bytes of a record at most: a packet's with 32 coefficients and 2,048 bytes of payload
+abbrev pub most_of_record : ℕ
+most_of_record = 2085
+
+-- ---- the first record
+
+-- so many bytes came of the first header, which are the session's
+pub record IsFirst (bytes : List ℕ) (count : ℕ) (session : SessionData) : Type 0 where
+  pub whole : count ≡ header_size
+  pub is_session : IsSession session
+  pub header : bytes ≡ header_record session
+
+-- the session of a first header of which so many bytes came, or why the input is refused, whatever follows a whole one
+abbrev pub FirstIs : List ℕ → ℕ → Result SessionData ReadEnd → Type 0
+FirstIs bytes count (Ok session) = IsFirst bytes count session
+FirstIs bytes count (Err end) =
+    (rest : List ℕ) → (count < header_size → rest ≡ []) → RefusesHeader (take count bytes ++ rest) end
+
+-- the session's header was read
+pub record TakesHeader (before after : InputState) (session : SessionData) : Type 0 where
+  pub is_session : IsSession session
+  pub taken : IsRead before.left after.left (header_record session)
+  pub no_fault : after.faults ≡ before.faults
+
+-- the input is refused at its first record
+pub record StopsFirst (before after : InputState) (end : ReadEnd) : Type 0 where
+  pub left : List ℕ
+  pub told : IsTold before.left left
+  pub refused : RefusesHeader left end
+  pub read : ReadsAtMost before.left after.left most_of_record
+  pub no_fault : after.faults ≡ before.faults
+
+abbrev pub FirstStops : InputState → InputState → ReadEnd → Type 0
+FirstStops before after ends.Memory = ⊥
+FirstStops before after ends.ReadFault = FailsWithin before after most_of_record
+FirstStops before after end = StopsFirst before after end
+
+abbrev pub TakesFirst : InputState → InputState → Result SessionData ReadEnd → Type 0
+TakesFirst before after (Ok session) = TakesHeader before after session
+TakesFirst before after (Err end) = FirstStops before after end
+
+-- ---- a record after it
+
+-- no item of the session stands at the front of these bytes, and they are refused so
+pub record IsStop (session : SessionData) (records offset : ℕ) (bytes : List ℕ) (end : ReadEnd) : Type 0 where
+  pub none : (item : Item) (more : List ℕ) → IsItemAt session offset item → bytes ≡ record_of session item ++ more
+      → records < most_records → ⊥
+  pub refusal : first_refusal offset records bytes ≡ Some end
+
+-- bytes were read that with those before are no more than a record's
+pub record ReadsWithin (before after : Option (List ℕ)) (begun : List ℕ) : Type 0 where
+  pub bytes : List ℕ
+  pub read : IsRead before after bytes
+  pub within : length (begun ++ bytes) ≤ most_of_record
+
+-- a read failed
+pub record FailsAt (before after : InputState) (begun : List ℕ) : Type 0 where
+  pub fault : Rose before.faults after.faults
+  pub read : ReadsWithin before.left after.left begun
+
+-- what was read before and what was left are refused so
+pub record StopsAt (before after : InputState) (session : SessionData) (records offset : ℕ) (begun : List ℕ) (end : ReadEnd) : Type 0 where
+  pub left : List ℕ
+  pub told : IsTold before.left left
+  pub stop : IsStop session records offset (begun ++ left) end
+  pub read : ReadsWithin before.left after.left begun
+  pub no_fault : after.faults ≡ before.faults
+
+abbrev pub StopCause : InputState → InputState → SessionData → ℕ → ℕ → List ℕ → ReadEnd → Type 0
+StopCause before after session records offset begun ends.Memory = ⊥
+StopCause before after session records offset begun ends.ReadFault = FailsAt before after begun
+StopCause before after session records offset begun end = StopsAt before after session records offset begun end
+
+-- a record of which these bytes were read before isn't given
+pub record Stops (before after : InputState) (session : SessionData) (records offset : ℕ) (begun : List ℕ) (end : ReadEnd) : Type 0 where
+  pub cause : StopCause before after session records offset begun end
+
+-- the byte that a record begins with
+abbrev pub byte_of : Tag → ℕ
+byte_of tags.Header = header_tag
+byte_of tags.Packet = packet_tag
+
+-- what begins with this byte, or why it is refused, whatever follows
+abbrev pub TagIs : ℕ → ℕ → ℕ → Result Tag ReadEnd → Type 0
+TagIs byte records offset (Ok tag) = (byte ≡ byte_of tag) × (records ≢ most_records)
+TagIs byte records offset (Err end) =
+    (session : SessionData) (rest : List ℕ) → IsStop session records offset (byte ∷ rest) end
+
+-- the byte was read, and more records may come
+pub record TakesByte (before after : InputState) (records byte : ℕ) : Type 0 where
+  pub taken : IsRead before.left after.left (byte ∷ [])
+  pub more : records ≢ most_records
+  pub no_fault : after.faults ≡ before.faults
+
+-- the input has ended
+pub record FindsEnd (before after : InputState) : Type 0 where
+  pub end : IsEnded before.left
+  pub nothing_read : IsRead before.left after.left []
+  pub no_fault : after.faults ≡ before.faults
+
+abbrev pub TakesTag : InputState → InputState → ℕ → ℕ → Result (Option Tag) ReadEnd → Type 0
+TakesTag before after records offset (Ok (Some tag)) = TakesByte before after records (byte_of tag)
+TakesTag before after records offset (Ok None) = FindsEnd before after
+TakesTag before after records offset (Err end) = (session : SessionData) → Stops before after session records offset [] end
+
+-- the item's record was read, of which these bytes were read before
+pub record TakesItem (before after : InputState) (session : SessionData) (offset : ℕ) (begun : List ℕ) (item : Item) : Type 0 where
+  pub bytes : List ℕ
+  pub taken : IsRead before.left after.left bytes
+  pub record_is : begun ++ bytes ≡ record_of session item
+  pub place : IsItemAt session offset item
+  pub no_fault : after.faults ≡ before.faults
+
+-- what follows the first byte of a record
+abbrev pub TakesBody : InputState → InputState → SessionData → ℕ → ℕ → Result Item ReadEnd → Type 0
+TakesBody before after session offset byte (Ok item) = TakesItem before after session offset (byte ∷ []) item
+TakesBody before after session offset byte (Err end) =
+    (records : ℕ) → records ≢ most_records → Stops before after session records offset (byte ∷ []) end
+
+-- a record isn't given; want of memory comes before anything is read
+abbrev pub RecordStops : InputState → InputState → SessionData → ℕ → ℕ → ReadEnd → Type 0
+RecordStops before after session records offset ends.Memory = after ≡ before
+RecordStops before after session records offset end = StopCause before after session records offset [] end
+
+-- the item, where more records may come
+pub record TakesNext (before after : InputState) (session : SessionData) (records offset : ℕ) (item : Item) : Type 0 where
+  pub item_is : TakesItem before after session offset [] item
+  pub few : records < most_records
+
+-- the next record after the first ones
+abbrev pub TakesRecord : InputState → InputState → SessionData → ℕ → ℕ → Result (Option Item) ReadEnd → Type 0
+TakesRecord before after session records offset (Ok (Some item)) = TakesNext before after session records offset item
+TakesRecord before after session records offset (Ok None) = FindsEnd before after
+TakesRecord before after session records offset (Err end) = RecordStops before after session records offset end

@@ -1,0 +1,185 @@
+ghost use Rattle.std.specs.Prelude.{◌≡◌, ◌==◌, ◌%◌, nat_le, slice_index, take, drop, IfOk, IfErr, OnOk, IsOkAnd, Some, None};
+ghost use Rattle.std.specs.Int.{w16, w64, to_be_bytes};
+ghost use Rattle.bats_model.specs.Session.{SessionData, IsSession};
+ghost use Rattle.bats_model.specs.Records.{header_record, mode_of};
+ghost use Rattle.bats_model.specs.Refusal.{first_broken, symbol_size_in, length_in};
+
+use bats_model::{HeaderField, Session};
+use byteorder::{BigEndian, ByteOrder};
+
+const MAGIC: [u8; 3] = *b"BTS";
+
+const VERSION: u8 = 1;
+
+// The greatest values of a header's numbers.
+const MOST_PACKETS: u8 = 32;
+
+const MOST_SYMBOL_BYTES: u16 = 2048;
+
+const MOST_SYMBOLS: u64 = 4096;
+
+// Bit 7 of the mode byte.
+const SYSTEMATIC: u8 = 128;
+
+// Bit 7 for a systematic session, and the number of the degree table.
+fn mode_byte(session: &Session) -> u8
+    ensures { result ≡ mode_of session.now }
+{
+    if session.systematic() {
+        SYSTEMATIC + session.table()
+    } else {
+        session.table()
+    }
+}
+
+fn symbol_size_bytes(session: &Session) -> [u8; 2]
+    ensures { result ≡ to_be_bytes w16 session.now.t }
+{
+    let mut bytes = [0; 2];
+    BigEndian::write_u16(&mut bytes, session.t());
+    bytes
+}
+
+fn length_bytes(session: &Session) -> [u8; 8]
+    ensures { result ≡ to_be_bytes w64 session.now.file_length }
+{
+    let mut bytes = [0; 8];
+    BigEndian::write_u64(&mut bytes, session.length());
+    bytes
+}
+
+/// The header record of a session.
+pub fn header_bytes(session: &Session) -> [u8; 32]
+    ensures { result ≡ header_record session.now }
+{
+    let m = session.m();
+    let mode = mode_byte(session);
+    let t = symbol_size_bytes(session);
+    let length = length_bytes(session);
+    let mut bytes = [
+        MAGIC[0], MAGIC[1], MAGIC[2], VERSION, m, mode, t[0], t[1], length[0], length[1],
+        length[2], length[3], length[4], length[5], length[6], length[7], 0, 0, 0, 0, 0, 0, 0, 0,
+        0, 0, 0, 0, 0, 0, 0, 0,
+    ];
+    bytes[16..].copy_from_slice(&session.seed());
+    bytes
+}
+
+fn symbol_size(bytes: &[u8; 32]) -> u16
+    ensures { result ≡ symbol_size_in bytes.now }
+{
+    BigEndian::read_u16(&bytes[6..8])
+}
+
+fn length(bytes: &[u8; 32]) -> u64
+    ensures { result ≡ length_in bytes.now }
+{
+    BigEndian::read_u64(&bytes[8..16])
+}
+
+fn seed(bytes: &[u8; 32]) -> [u8; 16]
+    ensures { result ≡ drop 16 bytes.now }
+{
+    let mut seed = [0; 16];
+    seed.copy_from_slice(&bytes[16..]);
+    seed
+}
+
+// The first field whose rule is broken, if one is.
+#[tactic(auto, unfolding(bats_model::specs::Refusal::first_broken))]
+fn broken_field(bytes: &[u8; 32]) -> Option<HeaderField>
+    ensures { result ≡ first_broken bytes.now }
+{
+    let t = symbol_size(bytes);
+    if &bytes[..3] != MAGIC.as_slice() {
+        Some(HeaderField::Magic)
+    } else if bytes[3] != VERSION {
+        Some(HeaderField::Version)
+    } else if bytes[4] == 0 || bytes[4] > MOST_PACKETS {
+        Some(HeaderField::BatchSize)
+    } else if bytes[5] % SYSTEMATIC > 1 {
+        Some(HeaderField::Mode)
+    } else if t == 0 || t > MOST_SYMBOL_BYTES {
+        Some(HeaderField::SymbolSize)
+    } else if length(bytes).div_ceil(u64::from(t)) > MOST_SYMBOLS {
+        Some(HeaderField::Length)
+    } else {
+        None
+    }
+}
+
+// The session of a header without a broken field.
+fn session_in(bytes: &[u8; 32]) -> Session
+    requires { first_broken bytes.now ≡ None }
+    ensures value { result ≡ record {
+      m = slice_index bytes.now 4;
+      t = symbol_size_in bytes.now;
+      file_length = length_in bytes.now;
+      table = slice_index bytes.now 5 % 128;
+      systematic = nat_le 128 (slice_index bytes.now 5);
+      seed = drop 16 bytes.now;
+    } }
+    ensures within { IsSession result }
+    ensures header { header_record result ≡ bytes.now }
+{
+    match Session::new(
+        bytes[4],
+        symbol_size(bytes),
+        length(bytes),
+        bytes[5] % SYSTEMATIC,
+        bytes[5] >= SYSTEMATIC,
+        seed(bytes),
+    ) {
+        Ok(session) => session,
+        Err(_) => unreachable!(),
+    }
+}
+
+/// The session whose header record these bytes are. An `Err` tells the first field whose rule is broken.
+pub fn read_header(bytes: &[u8; 32]) -> Result<Session, HeaderField>
+    ensures header { IfOk result (λ session. bytes.now ≡ header_record session) }
+    ensures only { (session : SessionData) → IsSession session → bytes.now ≡ header_record session
+        → IsOkAnd result (λ found. found ≡ session) }
+    ensures sound { OnOk result (first_broken bytes.now ≡ None) }
+    ensures broken { IfErr result (λ field. first_broken bytes.now ≡ Some field) }
+{
+    match broken_field(bytes) {
+        Some(field) => Err(field),
+        None => Ok(session_in(bytes)),
+    }
+}
+
+#[cfg(test)]
+mod tests {
+    use super::*;
+
+    // 2 packets a batch, 1 byte a symbol, a file of 5 bytes, table 1.
+    const HEADER: [u8; 32] = *b"BTS\x01\x02\x01\0\x01\0\0\0\0\0\0\0\x05abcdefghijklmnop";
+
+    #[test]
+    fn writes_and_reads_a_header(rt: HostRuntime) {
+        let session = Session::new(2, 1, 5, 1, false, *b"abcdefghijklmnop");
+        assert!(rt; session.is_ok());
+        if let Ok(session) = session {
+            assert_eq!(rt; header_bytes(&session), HEADER);
+            assert_eq!(rt; read_header(&HEADER), Ok(session));
+        }
+    }
+
+    #[test]
+    fn tells_the_first_broken_field(rt: HostRuntime) {
+        for (place, byte, field) in [
+            (11, 1, HeaderField::Length),
+            (6, 9, HeaderField::SymbolSize),
+            (5, 0x10, HeaderField::Mode),
+            (4, 33, HeaderField::BatchSize),
+            (3, 2, HeaderField::Version),
+            (2, b'T', HeaderField::Magic),
+        ] {
+            let mut bytes = HEADER;
+            bytes[place] = byte;
+            bytes[15] = 6;
+            assert_eq!(rt; read_header(&bytes), Err(field));
+        }
+    }
+}

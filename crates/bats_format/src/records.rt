@@ -1,0 +1,230 @@
+ghost use Rattle.std.specs.Prelude.{ℕ, ◌≡◌, ◌≤◌, length};
+ghost use Rattle.std.specs.Int.{w32, to_be_bytes};
+ghost use Rattle.bats_model.specs.Session.{IsSession};
+ghost use Rattle.bats_model.specs.PacketFile.{IsItemAt, record_of, most_records};
+ghost use Rattle.bats_model.specs.Records.{header_tag, packet_tag};
+ghost use Rattle.bats_format.specs.Taking.{most_of_record, FirstIs, TakesFirst, TagIs, byte_of, TakesTag, TakesBody, TakesRecord};
+
+use crate::filling::{fill, fill_part, fill_three};
+use crate::header::{header_bytes, read_header};
+use bats_io::Source;
+use bats_model::{Item, Packet, ReadEnd, Session};
+use byteorder::{BigEndian, ByteOrder};
+use std::alloc::Global;
+
+// Records of a packet file, headers counted, at most.
+const MAX_RECORDS: u32 = 1048576;
+
+// The first byte of a header record.
+const HEADER_TAG: u8 = b'B';
+
+// The first byte of a packet record.
+const PACKET_TAG: u8 = b'P';
+
+// What a record after the first begins as.
+#[derive(Clone, Copy, Debug, PartialEq, Eq)]
+enum Tag {
+    Header,
+    Packet,
+}
+
+// The session of a first header of which so many bytes came.
+fn first_of(bytes: &[u8; 32], count: usize) -> Result<Session, ReadEnd>
+    requires { count ≤ 32 }
+    ensures { FirstIs bytes.now count result }
+{
+    if count == 0 || bytes[0] != HEADER_TAG {
+        return Err(ReadEnd::NoHeader);
+    }
+    if count < 32 {
+        return Err(ReadEnd::Truncated { at: 0 });
+    }
+    match read_header(bytes) {
+        Ok(session) => Ok(session),
+        Err(field) => Err(ReadEnd::BadHeader { field }),
+    }
+}
+
+/// Reads the first header of an input.
+pub(crate) fn take_first<S: Source>(source: &mut S) -> Result<Session, ReadEnd>
+    ensures { TakesFirst
+        (record { left = S.left source.old; faults = S.faults source.old })
+        (record { left = S.left source.new; faults = S.faults source.new })
+        result }
+{
+    let mut bytes = [0; 32];
+    match fill(source, &mut bytes) {
+        Ok(count) => first_of(&bytes, count),
+        Err(_) => Err(ReadEnd::ReadFault),
+    }
+}
+
+// What begins with this byte, after so many records.
+fn tag_of(byte: u8, records: u32, at: u64) -> Result<Tag, ReadEnd>
+    ensures { TagIs byte records at result }
+{
+    if records == MAX_RECORDS {
+        return Err(ReadEnd::TooManyRecords);
+    }
+    if byte == HEADER_TAG {
+        return Ok(Tag::Header);
+    }
+    if byte == PACKET_TAG {
+        return Ok(Tag::Packet);
+    }
+    Err(ReadEnd::BadTag { at, byte })
+}
+
+// Reads the first byte of a record after the first, which is `None` at the end of the input.
+fn take_tag<S: Source>(source: &mut S, records: u32, at: u64) -> Result<Option<Tag>, ReadEnd>
+    ensures { TakesTag
+        (record { left = S.left source.old; faults = S.faults source.old })
+        (record { left = S.left source.new; faults = S.faults source.new })
+        records at result }
+{
+    let mut bytes = [0; 1];
+    match fill(source, &mut bytes) {
+        Ok(0) => Ok(None),
+        Ok(_) => match tag_of(bytes[0], records, at) {
+            Ok(tag) => Ok(Some(tag)),
+            Err(end) => Err(end),
+        },
+        Err(_) => Err(ReadEnd::ReadFault),
+    }
+}
+
+// Reads what follows the first byte of a later header, which is the session's.
+fn take_repeat<S: Source>(source: &mut S, session: &Session, at: u64) -> Result<Item, ReadEnd>
+    requires { IsSession session.now }
+    ensures { TakesBody
+        (record { left = S.left source.old; faults = S.faults source.old })
+        (record { left = S.left source.new; faults = S.faults source.new })
+        session.now at header_tag result }
+{
+    let header = header_bytes(session);
+    let mut rest = [0; 31];
+    fill_part(source, at, &mut rest)?;
+    if rest[..] != header[1..] {
+        return Err(ReadEnd::OtherSession { at });
+    }
+    Ok(Item::Header { at })
+}
+
+// The number whose bytes these are, the highest first.
+fn number_in(bytes: &[u8; 4]) -> u32
+    ensures { to_be_bytes w32 result ≡ bytes.now }
+{
+    BigEndian::read_u32(bytes)
+}
+
+// Reads what follows the first byte of a packet record, into M and T bytes of memory.
+fn take_packet<S: Source>(
+    source: &mut S,
+    session: &Session,
+    at: u64,
+    mut coefs: Vec<u8>,
+    mut payload: Vec<u8>,
+) -> Result<Item, ReadEnd>
+    requires coefs { length coefs.items ≡ session.now.m }
+    requires payload { length payload.items ≡ session.now.t }
+    requires session { IsSession session.now }
+    ensures { TakesBody
+        (record { left = S.left source.old; faults = S.faults source.old })
+        (record { left = S.left source.new; faults = S.faults source.new })
+        session.now at packet_tag result }
+{
+    let mut number = [0; 4];
+    fill_three(source, at, &mut number, &mut coefs, &mut payload)?;
+    Ok(Item::Packet {
+        at,
+        packet: Packet {
+            batch: number_in(&number),
+            coefs: coefs.into(),
+            payload: payload.into(),
+        },
+    })
+}
+
+// Reads what follows the first byte of a record, of a packet into M and T bytes of memory.
+fn take_body<S: Source>(
+    source: &mut S,
+    session: &Session,
+    at: u64,
+    tag: Tag,
+    coefs: Vec<u8>,
+    payload: Vec<u8>,
+) -> Result<Item, ReadEnd>
+    requires coefs { length coefs.items ≡ session.now.m }
+    requires payload { length payload.items ≡ session.now.t }
+    requires session { IsSession session.now }
+    ensures { TakesBody
+        (record { left = S.left source.old; faults = S.faults source.old })
+        (record { left = S.left source.new; faults = S.faults source.new })
+        session.now at (byte_of tag) result }
+{
+    match tag {
+        Tag::Header => take_repeat(source, session, at),
+        Tag::Packet => take_packet(source, session, at, coefs, payload),
+    }
+}
+
+// Reads the next record, of a packet into M and T bytes of memory.
+fn take_into<S: Source>(
+    source: &mut S,
+    session: &Session,
+    records: u32,
+    at: u64,
+    coefs: Vec<u8>,
+    payload: Vec<u8>,
+) -> Result<Option<Item>, ReadEnd>
+    requires coefs { length coefs.items ≡ session.now.m }
+    requires payload { length payload.items ≡ session.now.t }
+    requires session { IsSession session.now }
+    requires records { records ≤ most_records }
+    ensures { TakesRecord
+        (record { left = S.left source.old; faults = S.faults source.old })
+        (record { left = S.left source.new; faults = S.faults source.new })
+        session.now records at result }
+{
+    match take_tag(source, records, at) {
+        Ok(None) => Ok(None),
+        Ok(Some(tag)) => match take_body(source, session, at, tag, coefs, payload) {
+            Ok(item) => Ok(Some(item)),
+            Err(end) => Err(end),
+        },
+        Err(end) => Err(end),
+    }
+}
+
+/// Reads the next record after the first ones, which is `None` at the end of the input. Memory is taken before anything
+/// is read.
+pub(crate) fn take_record<S: Source>(
+    alloc: Global,
+    source: &mut S,
+    session: &Session,
+    records: u32,
+    at: u64,
+) -> Result<Option<Item>, ReadEnd>
+    requires { records ≤ most_records }
+    ensures { TakesRecord
+        (record { left = S.left source.old; faults = S.faults source.old })
+        (record { left = S.left source.new; faults = S.faults source.new })
+        session.now records at result }
+{
+    let coefs = vec![in alloc; 0; usize::from(session.m())]?;
+    let payload = vec![in alloc; 0; usize::from(session.t())]?;
+    take_into(source, session, records, at, coefs, payload)
+}
+
+/// Bytes of the record of an item.
+pub(crate) fn record_size(session: &Session, item: &Item) -> u64
+    requires { (offset : ℕ) × IsItemAt session.now offset item.now }
+    ensures size { result ≡ length (record_of session.now item.now) }
+    ensures within { result ≤ most_of_record }
+{
+    let packet_size = 5 + u64::from(session.m()) + u64::from(session.t());
+    match item {
+        Item::Header { .. } => 32,
+        Item::Packet { .. } => packet_size,
+    }
+}

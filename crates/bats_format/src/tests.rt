@@ -1,0 +1,141 @@
+use crate::Reader;
+use bats_io::MemSource;
+use bats_model::{HeaderField, Item, ReadEnd};
+use std::alloc::Global;
+use std::test::Fail;
+
+// Two packets of M = T = 2, after the header of a systematic session with the seed zero and a file of four bytes.
+const FILE: [u8; 50] = [
+    0x42, 0x54, 0x53, 1, 2, 0x80, 0, 2, 0, 0, 0, 0, 0, 0, 0, 4, 0, 0, 0, 0, 0, 0, 0, 0, 0, 0, 0, 0,
+    0, 0, 0, 0, 0x50, 0, 0, 0, 0, 1, 0, 1, 2, 0x50, 0, 0, 0, 0, 0, 1, 3, 4,
+];
+
+// Some bytes of the file, and more bytes after them.
+fn input(alloc: Global, count: usize, more: &[u8]) -> Result<Vec<u8>, Fail> {
+    let mut bytes = Vec::new(alloc);
+    for byte in FILE.iter().take(count) {
+        bytes.push(*byte)?;
+    }
+    bytes.extend_from_slice(more)?;
+    Ok(bytes)
+}
+
+// How many items come before the end of the input, or why it is refused, which is answered again.
+fn count_items(alloc: Global, bytes: Vec<u8>, most: usize) -> Result<usize, ReadEnd> {
+    let mut source = MemSource::new(bytes, most.max(1), Vec::new(alloc));
+    let mut reader = Reader::new();
+    for count in 0..100 {
+        match reader.next(alloc, &mut source) {
+            Ok(Some(_)) => {}
+            Ok(None) => {
+                return match reader.next(alloc, &mut source) {
+                    Ok(None) => Ok(count),
+                    _ => Err(ReadEnd::Memory),
+                };
+            }
+            Err(end) => {
+                return match reader.next(alloc, &mut source) {
+                    Err(again) if again == end => Err(end),
+                    _ => Err(ReadEnd::Memory),
+                };
+            }
+        }
+    }
+    Err(ReadEnd::Memory)
+}
+
+#[test]
+fn reads_in_pieces_of_any_size(rt: HostRuntime) -> Result<(), Fail> {
+    let alloc = rt.alloc();
+    for most in [1, 3, 1000] {
+        let file = input(alloc, 50, &[])?;
+        let mut source = MemSource::new(file, most, Vec::new(alloc));
+        let mut reader = Reader::new();
+        assert!(rt; reader.session().is_none());
+        let first = reader.next(alloc, &mut source);
+        assert!(rt; matches!(&first, Ok(Some(Item::Header { at: 0 }))));
+        assert!(rt; reader.session().is_some());
+        let second = reader.next(alloc, &mut source);
+        assert!(rt; matches!(&second, Ok(Some(Item::Packet { at: 32, .. }))));
+        if let Ok(Some(Item::Packet { packet, .. })) = second {
+            assert_eq!(rt; packet.batch, 0);
+            assert_eq!(rt; packet.coefs.as_slice(), [1, 0].as_slice());
+            assert_eq!(rt; packet.payload.as_slice(), [1, 2].as_slice());
+        }
+        let third = reader.next(alloc, &mut source);
+        assert!(rt; matches!(&third, Ok(Some(Item::Packet { at: 41, .. }))));
+        if let Ok(Some(Item::Packet { packet, .. })) = third {
+            assert_eq!(rt; packet.coefs.as_slice(), [0, 1].as_slice());
+            assert_eq!(rt; packet.payload.as_slice(), [3, 4].as_slice());
+        }
+        assert!(rt; matches!(&reader.next(alloc, &mut source), Ok(None)));
+        assert!(rt; matches!(&reader.next(alloc, &mut source), Ok(None)));
+    }
+    Ok(())
+}
+
+#[test]
+fn refuses_at_the_place(rt: HostRuntime) -> Result<(), Fail> {
+    let alloc = rt.alloc();
+    for most in [1, 3, 1000] {
+        let cut = Err(ReadEnd::Truncated { at: 32 });
+        assert_eq!(rt; count_items(alloc, input(alloc, 40, &[])?, most), cut);
+        assert_eq!(rt; count_items(alloc, input(alloc, 33, &[])?, most), cut);
+        assert_eq!(rt; count_items(alloc, input(alloc, 32, &[])?, most), Ok(1));
+        let cut = Err(ReadEnd::Truncated { at: 0 });
+        assert_eq!(rt; count_items(alloc, input(alloc, 31, &[])?, most), cut);
+        assert_eq!(rt;
+            count_items(alloc, input(alloc, 0, &[])?, most),
+            Err(ReadEnd::NoHeader)
+        );
+        assert_eq!(rt;
+            count_items(alloc, input(alloc, 0, &[0])?, most),
+            Err(ReadEnd::NoHeader)
+        );
+        let mut header = input(alloc, 32, &[])?;
+        if let Some(size) = header.get_mut(4) {
+            *size = 33;
+        }
+        let bad = Err(ReadEnd::BadHeader {
+            field: HeaderField::BatchSize,
+        });
+        assert_eq!(rt; count_items(alloc, header, most), bad);
+        let bad = Err(ReadEnd::BadTag { at: 32, byte: 0x51 });
+        assert_eq!(rt; count_items(alloc, input(alloc, 32, &[0x51])?, most), bad);
+    }
+    Ok(())
+}
+
+#[test]
+fn reads_repeats_of_the_header(rt: HostRuntime) -> Result<(), Fail> {
+    let alloc = rt.alloc();
+    for most in [1, 3, 1000] {
+        assert_eq!(rt;
+            count_items(alloc, input(alloc, 50, &FILE[..32])?, most),
+            Ok(4)
+        );
+        let mut other = input(alloc, 50, &FILE[..32])?;
+        if let Some(seed) = other.last_mut() {
+            *seed = 1;
+        }
+        let refusal = Err(ReadEnd::OtherSession { at: 50 });
+        assert_eq!(rt; count_items(alloc, other, most), refusal);
+        let cut = Err(ReadEnd::Truncated { at: 50 });
+        assert_eq!(rt;
+            count_items(alloc, input(alloc, 50, &FILE[..31])?, most),
+            cut
+        );
+    }
+    Ok(())
+}
+
+#[test]
+fn answers_a_failed_read_again(rt: HostRuntime) -> Result<(), Fail> {
+    let alloc = rt.alloc();
+    let mut source = MemSource::new(input(alloc, 50, &[])?, 1000, vec![in alloc; 3]?);
+    let mut reader = Reader::new();
+    assert!(rt; matches!(&reader.next(alloc, &mut source), Ok(Some(_))));
+    assert!(rt; matches!(&reader.next(alloc, &mut source), Err(ReadEnd::ReadFault)));
+    assert!(rt; matches!(&reader.next(alloc, &mut source), Err(ReadEnd::ReadFault)));
+    Ok(())
+}

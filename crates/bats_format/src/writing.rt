@@ -1,0 +1,105 @@
+ghost use Rattle.std.specs.Prelude.{◌≡◌, ◌<◌, ◌++◌, false, length, OnOk, OnErr, codes};
+ghost use Rattle.std.specs.Int.{w32, to_be_bytes};
+ghost use Rattle.bats_io.specs.Faults.{Rose};
+ghost use Rattle.bats_io.specs.Sink.{Appends, AppendsPrefix};
+ghost use Rattle.bats_model.specs.Records.{header_record, packet_record};
+
+use crate::header::header_bytes;
+use bats_io::{Sink, write_whole};
+use bats_model::{Packet, Session};
+use byteorder::{BigEndian, ByteOrder};
+
+// The first byte of a packet record.
+const PACKET: u8 = b'P';
+
+/// A write of a record failed. A prefix of the record was written.
+#[derive(Clone, Copy, Debug, PartialEq, Eq)]
+pub struct WriteFault;
+
+fn write_bytes<K: Sink>(sink: &mut K, bytes: &[u8]) -> Result<(), WriteFault>
+    ensures appended { OnOk result (Appends (K.written sink.old) (K.written sink.new) bytes.now) }
+    ensures unflushed { OnOk result (0 < length bytes.now → K.flushed sink.new ≡ false) }
+    ensures still_unflushed { OnOk result (K.flushed sink.old ≡ false → K.flushed sink.new ≡ false) }
+    ensures no_fault { OnOk result (K.faults sink.new ≡ K.faults sink.old) }
+    ensures failed { OnErr result (Rose (K.faults sink.old) (K.faults sink.new)) }
+    ensures prefix { OnErr result (AppendsPrefix (K.written sink.old) (K.written sink.new) bytes.now) }
+{
+    match write_whole(sink, bytes) {
+        Ok(()) => Ok(()),
+        Err(_) => Err(WriteFault),
+    }
+}
+
+/// Writes the header record of a session, 32 bytes.
+pub fn write_header<K: Sink>(sink: &mut K, session: &Session) -> Result<(), WriteFault>
+    ensures appended { OnOk result (Appends (K.written sink.old) (K.written sink.new) (header_record session.now)) }
+    ensures unflushed { OnOk result (K.flushed sink.new ≡ false) }
+    ensures no_fault { OnOk result (K.faults sink.new ≡ K.faults sink.old) }
+    ensures failed { OnErr result (Rose (K.faults sink.old) (K.faults sink.new)) }
+    ensures prefix { OnErr result (AppendsPrefix (K.written sink.old) (K.written sink.new) (header_record session.now)) }
+{
+    write_bytes(sink, &header_bytes(session))
+}
+
+// The tag and the number of the batch, before the coefficients.
+fn packet_front(batch: u32) -> [u8; 5]
+    ensures { result ≡ codes "P" ++ to_be_bytes w32 batch }
+{
+    let mut bytes = [PACKET, 0, 0, 0, 0];
+    BigEndian::write_u32(&mut bytes[1..], batch);
+    bytes
+}
+
+/// Writes the record of a packet of M coefficients and T payload bytes: 5 bytes, the coefficients, and the payload.
+pub fn write_packet<K: Sink>(
+    sink: &mut K,
+    session: &Session,
+    packet: &Packet,
+) -> Result<(), WriteFault>
+    requires coefs { length packet.now.coefs ≡ session.now.m }
+    requires payload { length packet.now.payload ≡ session.now.t }
+    ensures appended { OnOk result (Appends (K.written sink.old) (K.written sink.new)
+        (packet_record packet.now.batch packet.now.coefs packet.now.payload)) }
+    ensures unflushed { OnOk result (K.flushed sink.new ≡ false) }
+    ensures no_fault { OnOk result (K.faults sink.new ≡ K.faults sink.old) }
+    ensures failed { OnErr result (Rose (K.faults sink.old) (K.faults sink.new)) }
+    ensures prefix { OnErr result (AppendsPrefix (K.written sink.old) (K.written sink.new)
+        (packet_record packet.now.batch packet.now.coefs packet.now.payload)) }
+{
+    write_bytes(sink, &packet_front(packet.batch))?;
+    write_bytes(sink, packet.coefs.as_slice())?;
+    write_bytes(sink, packet.payload.as_slice())
+}
+
+#[cfg(test)]
+mod tests {
+    use super::*;
+    use bats_io::MemSink;
+    use bats_model::Bytes;
+    use std::test::Fail;
+
+    const HEADER: [u8; 32] = *b"BTS\x01\x02\x80\0\x02\0\0\0\0\0\0\0\x04abcdefghijklmnop";
+
+    #[test]
+    fn writes_records(rt: HostRuntime) -> Result<(), Fail> {
+        let alloc = rt.alloc();
+        let session = Session::new(2, 2, 4, 0, true, *b"abcdefghijklmnop");
+        let session = session.ok().ok_or("within the limits")?;
+        let packet = Packet {
+            batch: 0x0102_0304,
+            coefs: Bytes::copy_of(alloc, &[5, 6])?,
+            payload: Bytes::copy_of(alloc, &[7, 8])?,
+        };
+        let mut sink = MemSink::with_room(alloc, 45, 3, Vec::new(alloc))?;
+        assert_eq!(rt; write_header(&mut sink, &session), Ok(()));
+        assert_eq!(rt; sink.written(), HEADER.as_slice());
+        assert_eq!(rt; write_packet(&mut sink, &session, &packet), Ok(()));
+        assert_eq!(rt;
+            &sink.written()[32..],
+            b"P\x01\x02\x03\x04\x05\x06\x07\x08".as_slice()
+        );
+        assert_eq!(rt; write_packet(&mut sink, &session, &packet), Err(WriteFault));
+        assert_eq!(rt; &sink.written()[41..], b"P\x01\x02\x03".as_slice());
+        Ok(())
+    }
+}

@@ -1,0 +1,303 @@
+-- One item after another is received.
+use Rattle.std.proofs.Common.{ℕ, ◌≡◌, Bool, true, List, [], ◌∷◌, ◌++◌, Option, None, Some, Result, Ok, Err, refl, sym, ap, ◌∙◌, subst, inl, inr, append-nil}
+use Rattle.std.specs.Prelude.{IsSome}
+use Rattle.std.specs.List.{All}
+use Rattle.std.specs.Result.{IsErrAnd}
+use Rattle.std.proofs.lemmas.Result.{err_from_is_err_and}
+use Rattle.std.proofs.lemmas.List.Elements.{All-append, All-nil, All-push}
+use Rattle.bats_io.specs.Faults.{Rose}
+use Rattle.bats_io.specs.Streams.{InputState, IsRead, IsEnded, ReadsAtMost}
+use Rattle.bats_io.proofs.ReadLemmas.{IsRead-nothing, IsRead-after, IsTold-after, IsTold-read, told_or, IsTold-told_or}
+use Rattle.bats_model.specs.Session.{SessionData}
+use Rattle.bats_model.specs.Plain.{IsPlain}
+use Rattle.bats_model.specs.PacketFile.{IsPacketFile, BeginsWithHeader, record_of, packets_of}
+use Rattle.bats_model.specs.declared.packet.Packet.{Packet}
+use Rattle.bats_model.specs.declared.item.Item.{Item}
+use Rattle.bats_model.specs.declared.item.Item.TheVariants as items
+use Rattle.bats_model.specs.declared.read_end.ReadEnd.{ReadEnd}
+use Rattle.bats_model.specs.declared.read_end.ReadEnd.TheVariants as ends
+use Rattle.bats_format.specs.Reader as reader_specs
+use Rattle.bats_format.specs.Reader.{ReaderData, IsOpen, Nexts, GivesItem, GivesEnd, Refuses, RefusesAgain, RefusesInput, RefusesAfter, HasReadAs}
+use Rattle.bats_format.proofs.JoinedFiles.{packets_of-append}
+use Rattle.bats_decode.specs.Decoder as decoder_specs
+use Rattle.bats_decode.specs.Decoder.{DecoderData}
+use Rattle.bats_format.specs.Taking.{most_of_record}
+use Rattle.bats_tool.specs.Commands.{ReadsRecords}
+use Rattle.bats_tool.proofs.RecordsRead.{ReadsRecords-begun, ReadsAtMost-record, ReadsAtMost-same, ReadsAtMost-nothing}
+use Rattle.bats_tool.proofs.ReaderAnswers.{not_again, file_of}
+use Rattle.bats_tool.specs.Sink.{ArePlain}
+use Rattle.bats_tool.specs.Receiving.{HasReceived, Halts, TakesIn, TakesItem, IsNotPlain, IsRefusedAfter, MeetsNotPlain, ReceivesNext, Receives, ReceivesHeader, IsFresh, HasReceivedAll}
+use Rattle.bats_tool.specs.declared.receive.Halt.{Halt}
+use Rattle.bats_tool.specs.declared.receive.Halt.TheVariants as halts
+
+-- ---- one item
+
+pub TakesIn-packet : (session : SessionData) (at : ℕ) (packet : Packet) (d d' : DecoderData) → IsPlain session packet → d'.session ≡ d.session
+    → ((before : List Packet) → decoder_specs.StandsFor before d → decoder_specs.StandsFor (before ++ packet ∷ []) d')
+    → TakesIn session (items.Packet at packet) d d'
+unfolding packets_of
+TakesIn-packet session at packet d d' plain same stands =
+    record { plain = All-push (IsPlain session) [] packet (All-nil (IsPlain session)) plain; same_session = same; stands = stands }
+
+pub TakesIn-header : (session : SessionData) (at : ℕ) (d : DecoderData) → TakesIn session (items.Header at) d d
+unfolding packets_of
+TakesIn-header session at d = record {
+  plain = All-nil (IsPlain session);
+  same_session = refl;
+  stands = λ before h. subst (λ (xs : List Packet). decoder_specs.StandsFor xs d) (sym (append-nil before)) h;
+}
+
+-- ---- one item more
+
+-- what was received, and then no more than a record
+reads_begun : (start x y : InputState) (r : ReaderData) (d : DecoderData) → HasReceived start x r d → ReadsAtMost x.left y.left most_of_record
+    → ReadsRecords true start.left y.left
+reads_begun start x y r d h q =
+    ReadsRecords-begun true r.session h.bytes h.list r start.left x.left y.left h.reader_stands.read
+    (subst (λ (s : Option SessionData). ArePlain s h.list) (sym h.session) h.plain) h.read q
+
+-- the session of an item that was read is the reader's
+session_of : (one two : Option SessionData) (s t : SessionData) → one ≡ Some s → (IsSome one → one ≡ Some t) → t ≡ s
+session_of None two s t e h = cc
+session_of (Some u) two s t e h = let same : Some u ≡ Some t = h refl in cc
+
+pub HasReceived-more : (start x y : InputState) (r r' : ReaderData) (d d' : DecoderData) (item : Item) → HasReceived start x r d
+    → GivesItem x y r r' item → TakesIn d.session item d d' → HasReceived start y r' d'
+HasReceived-more start x y r r' d d' item h g t =
+    let same : g.session ≡ d.session = session_of r.session r'.session d.session g.session h.session g.same_session in
+    record {
+      bytes = h.bytes ++ record_of g.session item;
+      list = h.list ++ item ∷ [];
+      is_open = g.is_open;
+      session = g.session_is ∙ ap Some (same ∙ sym t.same_session);
+      reader_stands = g.stands h.bytes h.list h.reader_stands;
+      decoder_stands =
+          subst (λ (xs : List Packet). decoder_specs.StandsFor xs d') (sym (packets_of-append h.list (item ∷ [])))
+          (t.stands (packets_of h.list) h.decoder_stands);
+      plain =
+          subst (λ (xs : List Packet). All (IsPlain d'.session) xs) (sym (packets_of-append h.list (item ∷ [])))
+          (subst (λ (s : SessionData). All (IsPlain s) (packets_of h.list ++ packets_of (item ∷ []))) (sym t.same_session)
+          (All-append (IsPlain d.session) (packets_of h.list) (packets_of (item ∷ [])) h.plain t.plain));
+      read = IsRead-after start.left x.left y.left h.bytes (record_of g.session item) h.read g.taken;
+      no_fault = g.no_fault ∙ h.no_fault;
+    }
+
+-- what was received, and then one record
+reads_item : (start x y : InputState) (r r' : ReaderData) (d : DecoderData) (item : Item) → HasReceived start x r d
+    → GivesItem x y r r' item → ReadsRecords true start.left y.left
+reads_item start x y r r' d item h g =
+    let stands = g.stands h.bytes h.list h.reader_stands in
+    let file : IsPacketFile g.session (h.list ++ item ∷ []) (h.bytes ++ record_of g.session item) =
+    file_of r'.session g.session (h.bytes ++ record_of g.session item) (h.list ++ item ∷ []) r' stands.read g.session_is in
+    reads_begun start x y r d h (ReadsAtMost-record g.session r.offset item x.left y.left file.is_session g.place g.taken)
+
+-- a packet that isn't plain
+pub Halts-not_plain : (start x y : InputState) (r r' : ReaderData) (d : DecoderData) (item : Item) → HasReceived start x r d
+    → GivesItem x y r r' item → IsNotPlain d.session item → MeetsNotPlain start y
+Halts-not_plain start x y r r' d item h g n =
+    let same : g.session ≡ d.session = session_of r.session r'.session d.session g.session h.session g.same_session in
+    let stands = g.stands h.bytes h.list h.reader_stands in
+    let front : List ℕ = h.bytes ++ record_of g.session item in
+    let rest : List ℕ = told_or y.left [] in
+    let file : IsPacketFile d.session (h.list ++ item ∷ []) front =
+    file_of r'.session d.session front (h.list ++ item ∷ []) r' stands.read (g.session_is ∙ ap Some same) in
+    let read = IsRead-after start.left x.left y.left h.bytes (record_of g.session item) h.read g.taken in
+    record {
+      input = front ++ rest;
+      session = d.session;
+      list = h.list;
+      at = n.at;
+      packet = n.packet;
+      front = front;
+      rest = rest;
+      told = IsTold-after start.left y.left front rest read (IsTold-told_or y.left []);
+      is_front = record {
+        file = subst (λ (i : Item). IsPacketFile d.session (h.list ++ i ∷ []) front) n.item_is file;
+        split = refl;
+      };
+      plain = h.plain;
+      not_plain = n.not_plain;
+      reads = reads_item start x y r r' d item h g;
+      no_fault = g.no_fault ∙ h.no_fault;
+    }
+
+pub Halts-item : (start x y : InputState) (r r' : ReaderData) (d d' : DecoderData) (item : Item) (halt : Halt) → HasReceived start x r d
+    → GivesItem x y r r' item → TakesItem d.session item d d' (Err halt) → Halts start y halt
+Halts-item start x y r r' d d' item halts.NotPlain h g t = Halts-not_plain start x y r r' d item h g t
+Halts-item start x y r r' d d' item (halts.Input ends.Memory) h g t = (g.no_fault ∙ h.no_fault, reads_item start x y r r' d item h g)
+Halts-item start x y r r' d d' item (halts.Input ends.ReadFault) h g t = absurd t
+Halts-item start x y r r' d d' item (halts.Input ends.NoHeader) h g t = absurd t
+Halts-item start x y r r' d d' item (halts.Input (ends.BadHeader field)) h g t = absurd t
+Halts-item start x y r r' d d' item (halts.Input (ends.BadTag at byte)) h g t = absurd t
+Halts-item start x y r r' d d' item (halts.Input (ends.OtherSession at)) h g t = absurd t
+Halts-item start x y r r' d d' item (halts.Input (ends.Truncated at)) h g t = absurd t
+Halts-item start x y r r' d d' item (halts.Input ends.TooManyRecords) h g t = absurd t
+
+-- what a `?` returns that passes that on
+pub ReceivesNext-exit : (start x y : InputState) (r r' : ReaderData) (d d' : DecoderData) (item : Item) (halt : Halt)
+    (result : Result Bool Halt) → HasReceived start x r d → GivesItem x y r r' item → TakesItem d.session item d d' (Err halt)
+    → IsErrAnd result (λ h. h ≡ halt) → ReceivesNext start y r' d' result
+ReceivesNext-exit start x y r r' d d' item halt result h g t is =
+    let w = err_from_is_err_and result is in
+    subst (λ (z : Result Bool Halt). ReceivesNext start y r' d' z) (sym w.1)
+    (subst (λ (z : Halt). Halts start y z) (sym w.2) (Halts-item start x y r r' d d' item halt h g t))
+
+-- ---- a refusal
+
+-- what follows what was received is refused
+refused_input : (start x y : InputState) (r r' : ReaderData) (d : DecoderData) (end : ReadEnd) → HasReceived start x r d
+    → RefusesInput x y r r' end → IsRefusedAfter start y end
+refused_input start x y r r' d end h q = record {
+  input = h.bytes ++ q.left;
+  session = Some d.session;
+  list = h.list;
+  told = IsTold-after start.left x.left h.bytes q.left h.read q.told;
+  reading = subst (λ (s : Option SessionData). RefusesAfter s h.list (h.bytes ++ q.left) end) h.session
+      (q.is_refused h.bytes h.list h.reader_stands);
+  plain = h.plain;
+  reads = reads_begun start x y r d h q.read;
+  no_fault = q.no_fault ∙ h.no_fault;
+}
+
+unread : (x y : InputState) → y ≡ x → ReadsAtMost x.left y.left most_of_record
+unread x y same = subst (λ (i : InputState). ReadsAtMost x.left i.left most_of_record) (sym same) (ReadsAtMost-same x.left most_of_record)
+
+pub Halts-refused : (start x y : InputState) (r r' : ReaderData) (d : DecoderData) (end : ReadEnd) → HasReceived start x r d
+    → Refuses x y r r' end → Halts start y (halts.Input end)
+Halts-refused start x y r r' d ends.Memory h q = (
+  ap (λ (s : InputState). s.faults) q.nothing_read ∙ h.no_fault,
+  reads_begun start x y r d h (unread x y q.nothing_read),
+)
+Halts-refused start x y r r' d ends.ReadFault h (inl q) = absurd (not_again h.is_open q)
+Halts-refused start x y r r' d ends.ReadFault h (inr q) =
+    (subst (λ (f : ℕ). Rose f y.faults) h.no_fault q.fault, reads_begun start x y r d h q.read)
+Halts-refused start x y r r' d ends.NoHeader h (inl q) = absurd (not_again h.is_open q)
+Halts-refused start x y r r' d ends.NoHeader h (inr q) = refused_input start x y r r' d ends.NoHeader h q
+Halts-refused start x y r r' d (ends.BadHeader field) h (inl q) = absurd (not_again h.is_open q)
+Halts-refused start x y r r' d (ends.BadHeader field) h (inr q) = refused_input start x y r r' d (ends.BadHeader field) h q
+Halts-refused start x y r r' d (ends.BadTag at byte) h (inl q) = absurd (not_again h.is_open q)
+Halts-refused start x y r r' d (ends.BadTag at byte) h (inr q) = refused_input start x y r r' d (ends.BadTag at byte) h q
+Halts-refused start x y r r' d (ends.OtherSession at) h (inl q) = absurd (not_again h.is_open q)
+Halts-refused start x y r r' d (ends.OtherSession at) h (inr q) = refused_input start x y r r' d (ends.OtherSession at) h q
+Halts-refused start x y r r' d (ends.Truncated at) h (inl q) = absurd (not_again h.is_open q)
+Halts-refused start x y r r' d (ends.Truncated at) h (inr q) = refused_input start x y r r' d (ends.Truncated at) h q
+Halts-refused start x y r r' d ends.TooManyRecords h (inl q) = absurd (not_again h.is_open q)
+Halts-refused start x y r r' d ends.TooManyRecords h (inr q) = refused_input start x y r r' d ends.TooManyRecords h q
+
+-- ---- the whole input
+
+-- what a `?` returns that passes on why the receiving halts
+pub Receives-exit : (start y : InputState) (r : ReaderData) (d : DecoderData) (halt : Halt) (result : Result DecoderData Halt)
+    → ReceivesNext start y r d (Err halt) → IsErrAnd result (λ h. h ≡ halt) → Receives start y result
+Receives-exit start y r d halt result h is =
+    let w = err_from_is_err_and result is in
+    subst (λ (z : Result DecoderData Halt). Receives start y z) (sym w.1)
+    (subst (λ (z : Halt). Halts start y z) (sym w.2) h)
+
+-- ---- the first header
+
+fresh_stands : (r : ReaderData) → IsFresh r → reader_specs.StandsFor [] [] r
+fresh_stands r e =
+    subst (λ (z : ReaderData). reader_specs.StandsFor [] [] z) (sym e) (record { read = (refl, refl); records = refl; offset = refl })
+
+fresh_open : (r : ReaderData) → IsFresh r → IsOpen r
+fresh_open r e = subst (λ (z : ReaderData). IsOpen z) (sym e) (record { not_ended = refl; not_refused = refl })
+
+fresh_session : (r : ReaderData) → IsFresh r → r.session ≡ None
+fresh_session r e = ap (λ (z : ReaderData). z.session) e
+
+-- a packet file of one item has no packet
+packets_of-one : (item : Item) → BeginsWithHeader (item ∷ []) → packets_of (item ∷ []) ≡ []
+unfolding packets_of
+packets_of-one (items.Header at) h = refl
+packets_of-one (items.Packet at packet) h = absurd h
+
+pub ReceivesHeader-read : (x y : InputState) (r r' : ReaderData) (item : Item) (s : SessionData) → IsFresh r → GivesItem x y r r' item
+    → r'.session ≡ Some s → ReceivesHeader x y r' (Ok s)
+ReceivesHeader-read x y r r' item s e g is decoder same stands =
+    let read = g.stands [] [] (fresh_stands r e) in
+    let file : IsPacketFile s (item ∷ []) (record_of g.session item) = file_of r'.session s (record_of g.session item) (item ∷ []) r' read.read is in
+    let none : [] ≡ packets_of (item ∷ []) = sym (packets_of-one item file.header) in
+    record {
+      bytes = record_of g.session item;
+      list = item ∷ [];
+      is_open = g.is_open;
+      session = is ∙ ap Some (sym same);
+      reader_stands = read;
+      decoder_stands = subst (λ (xs : List Packet). decoder_specs.StandsFor xs decoder) none stands;
+      plain = subst (λ (xs : List Packet). All (IsPlain decoder.session) xs) none (All-nil (IsPlain decoder.session));
+      read = g.taken;
+      no_fault = g.no_fault;
+    }
+
+-- at most a record was read
+reads_first : (x y : InputState) (r : ReaderData) → IsFresh r → ReadsAtMost x.left y.left most_of_record → ReadsRecords true x.left y.left
+reads_first x y r e q =
+    ReadsRecords-begun true r.session [] [] r x.left x.left y.left (fresh_stands r e).read
+    (subst (λ (s : Option SessionData). ArePlain s []) (sym (fresh_session r e)) tt) (IsRead-nothing x.left) q
+
+refused_first : (x y : InputState) (r r' : ReaderData) (end : ReadEnd) → IsFresh r → RefusesInput x y r r' end → IsRefusedAfter x y end
+refused_first x y r r' end e q = record {
+  input = q.left;
+  session = None;
+  list = [];
+  told = q.told;
+  reading = (
+    refl,
+    subst (λ (s : Option SessionData). RefusesAfter s [] q.left end) (fresh_session r e)
+        (q.is_refused [] [] (fresh_stands r e)),
+  );
+  plain = tt;
+  reads = reads_first x y r e q.read;
+  no_fault = q.no_fault;
+}
+
+pub ReceivesHeader-refused : (x y : InputState) (r r' : ReaderData) (end : ReadEnd) → IsFresh r → Refuses x y r r' end
+    → ReceivesHeader x y r' (Err (halts.Input end))
+ReceivesHeader-refused x y r r' ends.Memory e q =
+    (ap (λ (s : InputState). s.faults) q.nothing_read, reads_first x y r e (unread x y q.nothing_read))
+ReceivesHeader-refused x y r r' ends.ReadFault e (inl q) = absurd (not_again (fresh_open r e) q)
+ReceivesHeader-refused x y r r' ends.ReadFault e (inr q) = (q.fault, reads_first x y r e q.read)
+ReceivesHeader-refused x y r r' ends.NoHeader e (inl q) = absurd (not_again (fresh_open r e) q)
+ReceivesHeader-refused x y r r' ends.NoHeader e (inr q) = refused_first x y r r' ends.NoHeader e q
+ReceivesHeader-refused x y r r' (ends.BadHeader field) e (inl q) = absurd (not_again (fresh_open r e) q)
+ReceivesHeader-refused x y r r' (ends.BadHeader field) e (inr q) = refused_first x y r r' (ends.BadHeader field) e q
+ReceivesHeader-refused x y r r' (ends.BadTag at byte) e (inl q) = absurd (not_again (fresh_open r e) q)
+ReceivesHeader-refused x y r r' (ends.BadTag at byte) e (inr q) = refused_first x y r r' (ends.BadTag at byte) e q
+ReceivesHeader-refused x y r r' (ends.OtherSession at) e (inl q) = absurd (not_again (fresh_open r e) q)
+ReceivesHeader-refused x y r r' (ends.OtherSession at) e (inr q) = refused_first x y r r' (ends.OtherSession at) e q
+ReceivesHeader-refused x y r r' (ends.Truncated at) e (inl q) = absurd (not_again (fresh_open r e) q)
+ReceivesHeader-refused x y r r' (ends.Truncated at) e (inr q) = refused_first x y r r' (ends.Truncated at) e q
+ReceivesHeader-refused x y r r' ends.TooManyRecords e (inl q) = absurd (not_again (fresh_open r e) q)
+ReceivesHeader-refused x y r r' ends.TooManyRecords e (inr q) = refused_first x y r r' ends.TooManyRecords e q
+
+-- ---- the end of the input
+
+end_list : (left rest : List ℕ) → left ≡ [] → left ≡ [] ++ rest → rest ≡ []
+end_list left rest e f = sym f ∙ e
+
+end_same : (b : Option (List ℕ)) (rest : List ℕ) → b ≡ Some rest → rest ≡ [] → IsEnded b
+end_same None rest e f = tt
+end_same (Some bytes) rest e f = cc
+
+still_ended : (a b : Option (List ℕ)) → IsEnded a → IsRead a b [] → IsEnded b
+still_ended None None h r = tt
+still_ended None (Some bytes) h r = cc
+still_ended (Some left) b h r = end_same b r.0 r.1 (end_list left r.0 h r.2)
+
+-- all was received
+pub HasReceivedAll-end : (start x y : InputState) (r r' : ReaderData) (d : DecoderData) → HasReceived start x r d → GivesEnd x y r r'
+    → HasReceivedAll start y d
+HasReceivedAll-end start x y r r' d h g =
+    let left = g.nothing_left h.is_open.not_ended in
+    record {
+      bytes = h.bytes;
+      list = h.list;
+      told = IsTold-read start.left x.left h.bytes h.read left.1;
+      end = still_ended x.left y.left left.1 g.nothing_read;
+      file = file_of r.session d.session h.bytes h.list r h.reader_stands.read h.session;
+      decoder_stands = h.decoder_stands;
+      plain = h.plain;
+      reads = reads_begun start x y r d h (ReadsAtMost-nothing x.left y.left most_of_record g.nothing_read);
+      no_fault = g.no_fault ∙ h.no_fault;
+    }

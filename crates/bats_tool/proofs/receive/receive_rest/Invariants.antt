@@ -1,0 +1,17 @@
+use Rattle.std.proofs.Common.{◌≡◌, ◌-◌, Some, Ok}
+use Rattle.bats_io.specs.Streams.{InputState}
+use Rattle.bats_model.specs.PacketFile.{most_records}
+use Rattle.bats_tool.specs.Receiving.{HasReceived, ReceivesHeader}
+use Rattle.bats_tool.proofs.receive.receive_rest.Given as goal
+
+abbrev pub invariant-records : goal.invariant-records
+invariant-records g l = record {
+  decoder : l.decoder.session ≡ l.session;
+  reader : l.reader.session ≡ Some l.session;
+  received : (start : InputState)
+      → ReceivesHeader start (record { left = g.S.Source.left l.fn.input; faults = g.S.Source.faults l.fn.input }) l.fn.reader (Ok l.session)
+      → HasReceived start (record { left = g.S.Source.left l.input; faults = g.S.Source.faults l.input }) l.reader l.decoder;
+}
+
+abbrev pub decreases-records : goal.decreases-records
+decreases-records g l = most_records - l.reader.records

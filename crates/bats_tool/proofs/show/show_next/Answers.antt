@@ -1,0 +1,104 @@
+use Rattle.std.proofs.Common.{refl}
+use Rattle.bats_format.specs.Reader.{GivesItem, GivesEnd}
+use Rattle.bats_tool.specs.declared.stop.Stop.TheVariants as stops
+use Rattle.bats_tool.specs.Streams.{Ends}
+use Rattle.bats_tool.proofs.ShowSteps.{HasShown-more, Attempts-item_cut, Attempts-memory, Attempts-refused, Reaches-end, Reaches-refused, StepsTo-exit}
+use Rattle.bats_format.specs.Taking.{most_of_record}
+use Rattle.bats_tool.proofs.RecordsRead.{ReadsAtMost-nothing}
+use Rattle.bats_tool.proofs.ReaderAnswers.{item_of, end_of}
+use Rattle.bats_tool.proofs.show.show_next.Goals as goal
+
+pub returns-in_err-show_item-in-Ok-Some-clause-shown : goal.returns-in_err-show_item-in-Ok-Some-clause-shown
+returns-in_err-show_item-in-Ok-Some-clause-shown g c start shown =
+    let before : Ends = (record {
+      input = record { left = g.S.Source.left c.args.input.now; faults = g.S.Source.faults c.args.input.now };
+      output = record { written = g.O.Sink.written c.args.output.now; flushed = g.O.Sink.flushed c.args.output.now; faults = g.O.Sink.faults c.args.output.now };
+    }) in
+    let after : Ends = (record {
+      input = record { left = g.S.Source.left c.next.new.source; faults = g.S.Source.faults c.next.new.source };
+      output = record { written = g.O.Sink.written c.show_item.new.output; flushed = g.O.Sink.flushed c.show_item.new.output; faults = g.O.Sink.faults c.show_item.new.output };
+    }) in
+    let given : GivesItem before.input after.input c.args.reader.now c.next.new.self c.in-Ok-Some.item =
+    item_of {y = before.input} {z = after.input} c.in-Ok-Some.field-0-is c.in-Ok-Some.ensures in
+    StepsTo-exit start after c.next.new.self c.args.counts.now.headers c.args.counts.now.packets c.in_err-show_item-in-Ok-Some.field-0.0 _ c.from_residual.ensures.1
+    (Attempts-item_cut start before after c.args.reader.now c.next.new.self c.in-Ok-Some.item c.args.counts.now.headers c.args.counts.now.packets c.in_err-show_item-in-Ok-Some.field-0.0 shown given
+    (c.in_err-show_item-in-Ok-Some.ensures given.session given.session_is))
+
+pub returns-in_ok-show_item-in-Ok-Some-clause-shown : goal.returns-in_ok-show_item-in-Ok-Some-clause-shown
+returns-in_ok-show_item-in-Ok-Some-clause-shown g c start shown =
+    let before : Ends = (record {
+      input = record { left = g.S.Source.left c.args.input.now; faults = g.S.Source.faults c.args.input.now };
+      output = record { written = g.O.Sink.written c.args.output.now; flushed = g.O.Sink.flushed c.args.output.now; faults = g.O.Sink.faults c.args.output.now };
+    }) in
+    let after : Ends = (record {
+      input = record { left = g.S.Source.left c.next.new.source; faults = g.S.Source.faults c.next.new.source };
+      output = record { written = g.O.Sink.written c.show_item.new.output; flushed = g.O.Sink.flushed c.show_item.new.output; faults = g.O.Sink.faults c.show_item.new.output };
+    }) in
+    let given : GivesItem before.input after.input c.args.reader.now c.next.new.self c.in-Ok-Some.item =
+    item_of {y = before.input} {z = after.input} c.in-Ok-Some.field-0-is c.in-Ok-Some.ensures in
+    record {
+      as_far = HasShown-more start before after c.args.reader.now c.next.new.self c.in-Ok-Some.item c.args.counts.now.headers c.args.counts.now.packets c.add.new.self.headers c.add.new.self.packets shown given
+          (c.in_ok-show_item-in-Ok-Some.ensures given.session given.session_is) c.add.ensures.all c.add.ensures.packets;
+    }
+
+pub returns-in_err-done-in-Ok-None-clause-shown : goal.returns-in_err-done-in-Ok-None-clause-shown
+returns-in_err-done-in-Ok-None-clause-shown g c start shown =
+    let before : Ends = (record {
+      input = record { left = g.S.Source.left c.args.input.now; faults = g.S.Source.faults c.args.input.now };
+      output = record { written = g.O.Sink.written c.args.output.now; flushed = g.O.Sink.flushed c.args.output.now; faults = g.O.Sink.faults c.args.output.now };
+    }) in
+    let after : Ends = (record {
+      input = record { left = g.S.Source.left c.next.new.source; faults = g.S.Source.faults c.next.new.source };
+      output = record { written = g.O.Sink.written c.args.output.now; flushed = g.O.Sink.flushed c.args.output.now; faults = g.O.Sink.faults c.args.output.now };
+    }) in
+    let given : GivesEnd before.input after.input c.args.reader.now c.next.new.self =
+    end_of {y = before.input} {z = after.input} c.in-Ok-None.field-0-is c.in-Ok-None.ensures in
+    StepsTo-exit start after c.next.new.self c.args.counts.now.headers c.args.counts.now.packets stops.Memory _ c.from_residual-in_err-done-in-Ok-None.ensures.1
+    (Attempts-memory start before after c.args.reader.now c.args.counts.now.headers c.args.counts.now.packets shown
+    (ReadsAtMost-nothing before.input.left after.input.left most_of_record given.nothing_read) given.no_fault refl)
+
+pub returns-in_ok-done-in-Ok-None-clause-shown : goal.returns-in_ok-done-in-Ok-None-clause-shown
+returns-in_ok-done-in-Ok-None-clause-shown g c start shown =
+    let before : Ends = (record {
+      input = record { left = g.S.Source.left c.args.input.now; faults = g.S.Source.faults c.args.input.now };
+      output = record { written = g.O.Sink.written c.args.output.now; flushed = g.O.Sink.flushed c.args.output.now; faults = g.O.Sink.faults c.args.output.now };
+    }) in
+    let after : Ends = (record {
+      input = record { left = g.S.Source.left c.next.new.source; faults = g.S.Source.faults c.next.new.source };
+      output = record { written = g.O.Sink.written c.args.output.now; flushed = g.O.Sink.flushed c.args.output.now; faults = g.O.Sink.faults c.args.output.now };
+    }) in
+    let given : GivesEnd before.input after.input c.args.reader.now c.next.new.self =
+    end_of {y = before.input} {z = after.input} c.in-Ok-None.field-0-is c.in-Ok-None.ensures in
+    record {
+      as_far = Reaches-end start before after c.args.reader.now c.next.new.self c.args.counts.now.headers c.args.counts.now.packets c.in_ok-done-in-Ok-None.field-0 shown given refl
+          c.in_ok-done-in-Ok-None.ensures.status c.in_ok-done-in-Ok-None.ensures.line;
+    }
+
+pub returns-in_err-refused-in-Err-clause-shown : goal.returns-in_err-refused-in-Err-clause-shown
+returns-in_err-refused-in-Err-clause-shown g c start shown =
+    let before : Ends = (record {
+      input = record { left = g.S.Source.left c.args.input.now; faults = g.S.Source.faults c.args.input.now };
+      output = record { written = g.O.Sink.written c.args.output.now; flushed = g.O.Sink.flushed c.args.output.now; faults = g.O.Sink.faults c.args.output.now };
+    }) in
+    let after : Ends = (record {
+      input = record { left = g.S.Source.left c.next.new.source; faults = g.S.Source.faults c.next.new.source };
+      output = record { written = g.O.Sink.written c.args.output.now; flushed = g.O.Sink.flushed c.args.output.now; faults = g.O.Sink.faults c.args.output.now };
+    }) in
+    StepsTo-exit start after c.next.new.self c.args.counts.now.headers c.args.counts.now.packets c.in_err-refused-in-Err.field-0.0 _ c.from_residual-in_err-refused-in-Err.ensures.1
+    (Attempts-refused start before after c.args.reader.now c.next.new.self c.args.counts.now.headers c.args.counts.now.packets c.in-Err.end c.in_err-refused-in-Err.field-0.0 shown c.in-Err.ensures refl
+    c.in_err-refused-in-Err.ensures)
+
+pub returns-in_ok-refused-in-Err-clause-shown : goal.returns-in_ok-refused-in-Err-clause-shown
+returns-in_ok-refused-in-Err-clause-shown g c start shown =
+    let before : Ends = (record {
+      input = record { left = g.S.Source.left c.args.input.now; faults = g.S.Source.faults c.args.input.now };
+      output = record { written = g.O.Sink.written c.args.output.now; flushed = g.O.Sink.flushed c.args.output.now; faults = g.O.Sink.faults c.args.output.now };
+    }) in
+    let after : Ends = (record {
+      input = record { left = g.S.Source.left c.next.new.source; faults = g.S.Source.faults c.next.new.source };
+      output = record { written = g.O.Sink.written c.args.output.now; flushed = g.O.Sink.flushed c.args.output.now; faults = g.O.Sink.faults c.args.output.now };
+    }) in
+    record {
+      as_far = Reaches-refused start before after c.args.reader.now c.next.new.self c.args.counts.now.headers c.args.counts.now.packets c.in-Err.end c.in_ok-refused-in-Err.field-0 shown c.in-Err.ensures refl
+          c.in_ok-refused-in-Err.ensures;
+    }

@@ -1,0 +1,126 @@
+//! The command `sink`.
+ghost use Rattle.std.specs.Prelude.{◌≡◌, List, Some, true, string_bytes, IfOk, OnOk};
+ghost use Rattle.std.specs.Result.{result_err};
+ghost use Rattle.bats_model.specs.declared.packet.Packet.{Packet};
+ghost use Rattle.bats_decode.specs.Decoder.{StandsFor};
+ghost use Rattle.bats_tool.specs.declared.command.Command.TheVariants as commands;
+ghost use Rattle.bats_tool.specs.Attempt.{Attempts};
+ghost use Rattle.bats_tool.specs.Answering.{AnswersAs};
+ghost use Rattle.bats_tool.specs.Options.{HasWorkers};
+ghost use Rattle.bats_tool.specs.Sink.{answer_line, answer_output, answer_status};
+ghost use Rattle.bats_tool.specs.Writes.{Writes};
+ghost use Rattle.bats_tool.specs.Refused.{HaltsAs, EndsHalted};
+
+use crate::answers::{answer_text, status_of_answer, write_answer};
+use crate::finish::Finish;
+use crate::receive::{Halt, receive};
+use crate::refusals::{flush, refused};
+use crate::status::Status;
+use crate::stop::Stop;
+use bats_decode::{Decoder, Solved};
+use bats_io::{Sink, Source};
+use bats_model::Answer;
+use gf_rows::Steps;
+use std::alloc::{AllocError, Global};
+use std::sync::ledger::Ledger;
+use std::thread::Threads;
+
+// How the run ends that found this answer.
+fn finish_of(alloc: Global, solved: &Solved) -> Result<Finish, AllocError>
+    ensures { IfOk result (λ finish. (finish.status ≡ answer_status solved.now.answer)
+        × (string_bytes finish.line ≡ answer_line solved.now.packets solved.now.kept solved.now.answer)) }
+{
+    let line = answer_text(alloc, &solved.answer, solved.packets, solved.kept)?;
+    Ok(Finish {
+        status: status_of_answer(&solved.answer),
+        line,
+    })
+}
+
+// Writes what an answer gives, and flushes the output.
+fn send_answer<O: Sink>(output: &mut O, both: bool, answer: &Answer) -> Result<(), Stop>
+    ensures written { Writes (O.written output.old) (O.written output.new) (O.faults output.old) (O.faults output.new)
+        (answer_output both answer.now) (result_err result) }
+    ensures flushed { OnOk result (O.flushed output.new ≡ true) }
+{
+    write_answer(output, both, answer)?;
+    flush(output)
+}
+
+// Solves for the file of the packets that were received, and writes the answer.
+fn answer<R: Threads + Sync, O: Sink, C: Ledger, L: Ledger>(
+    rt: &R,
+    alloc: Global,
+    workers: u32,
+    both: bool,
+    decoder: Decoder,
+    output: &mut O,
+    coef_steps: &mut Steps<C>,
+    steps: &mut Steps<L>,
+) -> Result<Finish, Stop>
+    requires { HasWorkers workers }
+    ensures { (packets : List Packet) → StandsFor packets decoder → AnswersAs both decoder packets
+        (record { written = O.written output.old; flushed = O.flushed output.old; faults = O.faults output.old })
+        (record { written = O.written output.new; flushed = O.flushed output.new; faults = O.faults output.new })
+        result }
+{
+    let solved = decoder.solve(rt, workers, coef_steps, steps)?;
+    let finish = finish_of(alloc, &solved)?;
+    send_answer(output, both, &solved.answer)?;
+    Ok(finish)
+}
+
+// How the run ends whose receiving halts, once its output is flushed.
+fn finish_of_halt(alloc: Global, halt: Halt) -> Result<Finish, Stop>
+    ensures { HaltsAs halt result }
+{
+    match halt {
+        Halt::Input(end) => refused(alloc, end),
+        Halt::NotPlain => Ok(Finish {
+            status: Status::NotBuilt,
+            line: String::from_str(alloc, "bats: not built\n")?,
+        }),
+    }
+}
+
+// Ends the run whose receiving halts: nothing is written.
+fn end_halted<O: Sink>(alloc: Global, halt: Halt, output: &mut O) -> Result<Finish, Stop>
+    ensures { EndsHalted halt
+        (record { written = O.written output.old; flushed = O.flushed output.old; faults = O.faults output.old })
+        (record { written = O.written output.new; flushed = O.flushed output.new; faults = O.faults output.new })
+        result }
+{
+    let finish = finish_of_halt(alloc, halt)?;
+    flush(output)?;
+    Ok(finish)
+}
+
+/// Does `sink`: receives the packets of the input, and writes the file that they give, or says why there is none. The
+/// number of workers is 1 to 64.
+pub fn sink<R: Threads + Sync, S: Source, O: Sink, C: Ledger, L: Ledger>(
+    rt: &R,
+    alloc: Global,
+    workers: u32,
+    both: bool,
+    input: &mut S,
+    output: &mut O,
+    coef_steps: &mut Steps<C>,
+    steps: &mut Steps<L>,
+) -> Result<Finish, Stop>
+    requires { HasWorkers workers }
+    ensures { Attempts (Some (commands.Sink workers both))
+        (record {
+          input = record { left = S.left input.old; faults = S.faults input.old };
+          output = record { written = O.written output.old; flushed = O.flushed output.old; faults = O.faults output.old };
+        })
+        (record {
+          input = record { left = S.left input.new; faults = S.faults input.new };
+          output = record { written = O.written output.new; flushed = O.flushed output.new; faults = O.faults output.new };
+        })
+        result }
+{
+    match receive(alloc, input, coef_steps, steps) {
+        Ok(decoder) => answer(rt, alloc, workers, both, decoder, output, coef_steps, steps),
+        Err(halt) => end_halted(alloc, halt, output),
+    }
+}
