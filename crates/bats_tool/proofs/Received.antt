@@ -6,7 +6,7 @@ use Rattle.std.specs.Result.{IsErrAnd}
 use Rattle.std.proofs.lemmas.Result.{err_from_is_err_and}
 use Rattle.std.proofs.lemmas.List.Elements.{All-append, All-nil, All-push}
 use Rattle.bats_io.specs.Faults.{Rose}
-use Rattle.bats_io.specs.Streams.{InputState, IsRead, IsEnded, ReadsAtMost}
+use Rattle.bats_io.specs.Streams.{InputState, ReadsAtMost}
 use Rattle.bats_io.proofs.ReadLemmas.{IsRead-nothing, IsRead-after, IsTold-after, IsTold-read, told_or, IsTold-told_or}
 use Rattle.bats_model.specs.Session.{SessionData}
 use Rattle.bats_model.specs.Plain.{IsPlain}
@@ -23,8 +23,8 @@ use Rattle.bats_decode.specs.Decoder as decoder_specs
 use Rattle.bats_decode.specs.Decoder.{DecoderData}
 use Rattle.bats_format.specs.Taking.{most_of_record}
 use Rattle.bats_tool.specs.Commands.{ReadsRecords}
-use Rattle.bats_tool.proofs.RecordsRead.{ReadsRecords-begun, ReadsAtMost-record, ReadsAtMost-same, ReadsAtMost-nothing}
-use Rattle.bats_tool.proofs.ReaderAnswers.{not_again, file_of}
+use Rattle.bats_tool.proofs.RecordsRead.{ReadsRecords-begun, ReadsAtMost-record, ReadsAtMost-nothing, unread}
+use Rattle.bats_tool.proofs.ReaderAnswers.{not_again, file_of, still_ended}
 use Rattle.bats_tool.specs.Sink.{ArePlain}
 use Rattle.bats_tool.specs.Receiving.{HasReceived, Halts, TakesIn, TakesItem, IsNotPlain, IsRefusedAfter, MeetsNotPlain, ReceivesNext, Receives, ReceivesHeader, IsFresh, HasReceivedAll}
 use Rattle.bats_tool.specs.declared.receive.Halt.{Halt}
@@ -159,9 +159,6 @@ refused_input start x y r r' d end h q = record {
   no_fault = q.no_fault ∙ h.no_fault;
 }
 
-unread : (x y : InputState) → y ≡ x → ReadsAtMost x.left y.left most_of_record
-unread x y same = subst (λ (i : InputState). ReadsAtMost x.left i.left most_of_record) (sym same) (ReadsAtMost-same x.left most_of_record)
-
 pub Halts-refused : (start x y : InputState) (r r' : ReaderData) (d : DecoderData) (end : ReadEnd) → HasReceived start x r d
     → Refuses x y r r' end → Halts start y (halts.Input end)
 Halts-refused start x y r r' d ends.Memory h q = (
@@ -272,18 +269,6 @@ ReceivesHeader-refused x y r r' ends.TooManyRecords e (inl q) = absurd (not_agai
 ReceivesHeader-refused x y r r' ends.TooManyRecords e (inr q) = refused_first x y r r' ends.TooManyRecords e q
 
 -- ---- the end of the input
-
-end_list : (left rest : List ℕ) → left ≡ [] → left ≡ [] ++ rest → rest ≡ []
-end_list left rest e f = sym f ∙ e
-
-end_same : (b : Option (List ℕ)) (rest : List ℕ) → b ≡ Some rest → rest ≡ [] → IsEnded b
-end_same None rest e f = tt
-end_same (Some bytes) rest e f = cc
-
-still_ended : (a b : Option (List ℕ)) → IsEnded a → IsRead a b [] → IsEnded b
-still_ended None None h r = tt
-still_ended None (Some bytes) h r = cc
-still_ended (Some left) b h r = end_same b r.0 r.1 (end_list left r.0 h r.2)
 
 -- all was received
 pub HasReceivedAll-end : (start x y : InputState) (r r' : ReaderData) (d : DecoderData) → HasReceived start x r d → GivesEnd x y r r'

@@ -1,6 +1,6 @@
 -- How far a packet file was read.
-use Rattle.std.proofs.Common.{ℕ, Bool, List, [], Option, None, Some, arith}
-use Rattle.bats_io.specs.Streams.{IsRead, ReadsAtMost}
+use Rattle.std.proofs.Common.{ℕ, Bool, List, [], Option, None, Some, arith, ◌≡◌, sym, subst}
+use Rattle.bats_io.specs.Streams.{InputState, IsRead, ReadsAtMost}
 use Rattle.bats_io.proofs.ReadLemmas.{IsRead-nothing, IsRead-after}
 use Rattle.bats_model.specs.Session.{SessionData, IsSession}
 use Rattle.bats_model.specs.PacketFile.{IsItemAt, record_of}
@@ -49,3 +49,7 @@ ReadsAtMost-record session offset (items.Packet at packet) a b is place r = reco
   read = r;
   within = omega (arith, length-packet_record session packet place.1, is.m_high, is.t_high);
 }
+
+-- an input of which nothing was read
+pub unread : (x y : InputState) → y ≡ x → ReadsAtMost x.left y.left most_of_record
+unread x y same = subst (λ (i : InputState). ReadsAtMost x.left i.left most_of_record) (sym same) (ReadsAtMost-same x.left most_of_record)

@@ -4,11 +4,11 @@ use Rattle.std.proofs.lemmas.List.{take-append-drop}
 use Rattle.bats_io.specs.Streams.{IsRead}
 use Rattle.bats_io.proofs.ReadLemmas.{IsTold-after, told_or, IsTold-told_or}
 use Rattle.bats_format.specs.Reader.{ReaderData, HasReadAs}
+use Rattle.bats_format.proofs.JoinedFiles.{packets_of-append}
 use Rattle.bats_model.specs.Session.{SessionData}
 use Rattle.bats_model.specs.PacketFile.{IsPacketFile, packets_of}
 use Rattle.bats_model.specs.declared.packet.Packet.{Packet}
 use Rattle.bats_model.specs.declared.item.Item.{Item}
-use Rattle.bats_model.specs.declared.item.Item.TheVariants as items
 use Rattle.bats_format.specs.Taking.{most_of_record}
 use Rattle.bats_tool.proofs.RecordsRead.{ReadsRecords-begun, ReadsAtMost-same}
 use Rattle.bats_tool.specs.declared.command.Command.TheVariants as commands
@@ -19,12 +19,6 @@ use Rattle.bats_tool.specs.Commands.{IsPart}
 use Rattle.bats_tool.specs.Show.{item_line, item_lines, lines_read}
 use Rattle.bats_tool.specs.Attempt.{Attempts}
 use Rattle.bats_tool.specs.Writes.{Writes}
-
-packets_of-append : (list others : List Item) → packets_of (list ++ others) ≡ packets_of list ++ packets_of others
-unfolding packets_of
-packets_of-append [] others = refl
-packets_of-append (items.Header at ∷ list) others = packets_of-append list others
-packets_of-append (items.Packet at packet ∷ list) others = ap (λ (x : List Packet). packet ∷ x) (packets_of-append list others)
 
 pub count-append : (list others : List Item) → length (packets_of (list ++ others)) ≡ length (packets_of list) + length (packets_of others)
 count-append list others = ap (length {A = Packet}) (packets_of-append list others) ∙ length-append (packets_of list) (packets_of others)

@@ -5,7 +5,7 @@ use Rattle.std.specs.Result.{IsErrAnd}
 use Rattle.std.proofs.lemmas.Result.{err_from_is_err_and}
 use Rattle.bats_io.specs.Faults.{Rose}
 use Rattle.bats_io.specs.Sink.{appended}
-use Rattle.bats_io.specs.Streams.{InputState, OutputState, IsRead, IsEnded, ReadsAtMost}
+use Rattle.bats_io.specs.Streams.{InputState, OutputState, ReadsAtMost}
 use Rattle.bats_io.proofs.Appended.{appended-nil}
 use Rattle.bats_io.proofs.ReadLemmas.{IsRead-nothing, IsRead-after, IsTold-after, IsTold-read, told_or, IsTold-told_or}
 use Rattle.bats_format.specs.Reader.{ReaderData, StandsFor, HasReadAs, IsOpen, GivesItem, GivesEnd, Refuses, RefusesInput, RefusesAfter, CannotRead}
@@ -32,8 +32,8 @@ use Rattle.bats_tool.proofs.Parts.{WritesPart-whole, WritesPart-same}
 use Rattle.bats_tool.proofs.Writing.{Writes-after, Writes-same}
 use Rattle.bats_format.specs.Taking.{most_of_record}
 use Rattle.bats_tool.specs.Commands.{ReadsRecords}
-use Rattle.bats_tool.proofs.RecordsRead.{ReadsRecords-begun, ReadsAtMost-nothing, ReadsAtMost-same}
-use Rattle.bats_tool.proofs.ReaderAnswers.{not_again, file_of}
+use Rattle.bats_tool.proofs.RecordsRead.{ReadsRecords-begun, ReadsAtMost-nothing, unread}
+use Rattle.bats_tool.proofs.ReaderAnswers.{not_again, file_of, still_ended}
 use Rattle.bats_tool.proofs.ShowLines.{count-append, item_lines-more, lines_of, lines_all, Attempts-line_cut}
 
 -- ---- an item
@@ -96,18 +96,6 @@ reading_of : (s : Option SessionData) (bytes : List ℕ) (list : List Item) (rea
     → IsReading bytes s list None
 reading_of None bytes list reader h some = cc
 reading_of (Some session) bytes list reader h some = h
-
-ended_list : (left rest : List ℕ) → left ≡ [] → left ≡ [] ++ rest → rest ≡ []
-ended_list left rest e f = sym f ∙ e
-
-ended_same : (b : Option (List ℕ)) (rest : List ℕ) → b ≡ Some rest → rest ≡ [] → IsEnded b
-ended_same None rest e f = tt
-ended_same (Some bytes) rest e f = cc
-
-still_ended : (a b : Option (List ℕ)) → IsEnded a → IsRead a b [] → IsEnded b
-still_ended None None h r = tt
-still_ended None (Some bytes) h r = cc
-still_ended (Some left) b h r = ended_same b r.0 r.1 (ended_list left r.0 h r.2)
 
 pub Reaches-end : (x y z : Ends) (reader reader' : ReaderData) (h p : ℕ) (finish : Finish) → HasShown x y reader h p
     → GivesEnd y.input z.input reader reader' → z.output ≡ y.output
@@ -252,10 +240,6 @@ pub Reaches-refused : (x y z : Ends) (reader reader' : ReaderData) (h p : ℕ) (
 Reaches-refused x y z reader reader' h p end finish s r same f =
     of_input x y z reader reader' h p end finish s
     (refuses_input y.input z.input reader reader' end s.is_open r (subst IsOfEnding f.status f.of_ending)) same f
-
--- nothing more was read, or a part of the record
-unread : (y z : InputState) → z ≡ y → ReadsAtMost y.left z.left most_of_record
-unread y z same = subst (λ (i : InputState). ReadsAtMost y.left i.left most_of_record) (sym same) (ReadsAtMost-same y.left most_of_record)
 
 -- a read that failed
 faulted : (y z : InputState) (reader reader' : ReaderData) → IsOpen reader → Refuses y z reader reader' ends.ReadFault → CannotRead y z reader reader'
