@@ -1,11 +1,11 @@
 -- A plain packet is a repeat exactly where its vector is a combination of those of the earlier packets of its batch.
-use Rattle.std.proofs.Common.{ℕ, suc, zero, ◌≡◌, ◌≢◌, ◌<◌, ◌∙◌, ◌↔◌, ◌∷◌, [], ◌==◌, sym, ap, refl, true, false, List, All, map, filter, length, get_or, inl, inr, arith, subst}
+use Rattle.std.proofs.Common.{ℕ, suc, zero, ◌≡◌, ◌≢◌, ◌<◌, ◌∙◌, ◌↔◌, ◌∷◌, [], ◌==◌, sym, ap, refl, true, false, List, All, length, get_or, inl, inr, arith, subst}
 use Rattle.std.specs.Str.{bytes_eq}
 use Rattle.std.proofs.lemmas.Bool.{false≢true, and_cases, and_parts, eqb-true, cases_eq, cases_Bool, or_cases, or_parts, eq-eqb}
 use Rattle.std.proofs.lemmas.Bool.Decides.{not_from_Decides}
 use Rattle.std.proofs.lemmas.List.Elements.{All-head, All-tail, All-from_get_or}
 use Rattle.std.proofs.lemmas.Slice.Eq.{bytes_eq-Decides}
-use Rattle.gf_core.specs.Field.{gf_mul, gf_sum}
+use Rattle.gf_core.specs.Field.{gf_mul}
 use Rattle.gf_core.proofs.SumLemmas.{gf_sum-one, gf_sum-zeros}
 use Rattle.gf_core.proofs.ProductLemmas.{zero-gf_mul, gf_mul-zero, one-gf_mul}
 use Rattle.bats_model.proofs.UnitVectors.{length-unit_vector}
@@ -13,21 +13,9 @@ use Rattle.bats_model.specs.Bytes.{AreBytes}
 use Rattle.bats_model.specs.Session.{SessionData}
 use Rattle.bats_model.specs.Coded.{unit_vector}
 use Rattle.bats_model.specs.Plain.{IsUnitAt, IsPlain}
-use Rattle.bats_model.specs.Kept.{is_same_vector, is_repeat, kept_after, kept_count}
+use Rattle.bats_model.specs.Kept.{is_same_vector, is_repeat, kept_after, kept_count, vectors_of, IsCombination}
 use Rattle.bats_model.specs.declared.packet.Packet.{Packet}
 use Rattle.bats_model.proofs.UnitVectors.{one-at, zero-elsewhere}
-
--- the coefficient vectors of a batch's packets, in order
-abbrev pub vectors_of : ℕ → List Packet → List (List ℕ)
-vectors_of batch packets = map (λ packet. packet.coefs) (filter (λ packet. packet.batch == batch) packets)
-
--- the vector is a combination of these vectors: there are factors, one byte for each, whose products sum to it
-pub record IsCombination (vectors : List (List ℕ)) (vector : List ℕ) : Type 0 where
-  pub factors : List ℕ
-  pub bytes : AreBytes factors
-  pub size : length factors ≡ length vectors
-  pub sums : (i : ℕ) → i < length vector → get_or vector i 0
-      ≡ gf_sum (length vectors) (λ k. gf_mul (get_or factors k 0) (get_or (get_or vectors k []) i 0))
 
 -- two columns of one batch, and the first of them again
 kept-repeat : kept_count (record { batch = 0; coefs = 1 ∷ 0 ∷ []; payload = 1 ∷ [] } ∷ record { batch = 0; coefs = 0 ∷ 1 ∷ []; payload = 2 ∷ [] }

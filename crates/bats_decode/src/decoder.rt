@@ -52,7 +52,7 @@ impl Model for Decoder {
 }
 
 impl Decoder {
-    ghost use Rattle.bats_model.specs.Session.{symbols_of};
+    ghost use Rattle.bats_model.specs.Session.{IsSession, symbols_of};
     ghost use Rattle.bats_model.specs.Agreement.{IsFile};
     ghost use Rattle.bats_model.specs.Plain.{IsPlain, IsSymbol};
     ghost use Rattle.bats_model.specs.RightAnswer.{IsRightAnswer};
@@ -93,6 +93,7 @@ impl Decoder {
 
     // Counts a packet, and takes in that the bytes of its place are the payload.
     fn receive(&mut self, place: usize, payload: &[u8])
+        requires limits { IsSession self.old.session }
         requires file { length self.old.file ≡ self.old.session.file_length }
         requires known { length self.old.known ≡ symbols_of self.old.session + self.old.session.m }
         requires place { place < length self.old.known }
@@ -104,8 +105,6 @@ impl Decoder {
         ensures here { is_known self.new.known place ≡ true }
         ensures elsewhere { (q : ℕ) → q ≢ place → is_known self.new.known q ≡ is_known self.old.known q }
     {
-        // T is within its limits, so that the place's bytes end below 2^64.
-        let _t = self.session.t();
         self.packets = self.packets.saturating_add(1);
         if !take_in_and_compare(&mut self.file, &mut self.known, place, payload) {
             self.contradicted = true;

@@ -2,9 +2,11 @@
 #![tactic(auto)]
 
 mod decoder;
+mod laws;
 mod symbols;
 
 pub use decoder::{Decoder, Solved};
+pub use laws::repeats_are_combinations;
 
 #[cfg(test)]
 mod tests;

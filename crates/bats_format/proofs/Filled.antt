@@ -5,11 +5,11 @@ use Rattle.std.proofs.Math.Seq.{take-append-add}
 use Rattle.std.specs.Result.{IsErr}
 use Rattle.bats_io.specs.Faults.{Rose}
 use Rattle.bats_io.specs.Streams.{InputState, IsTold, IsRead, IsEnded}
-use Rattle.bats_io.proofs.ReadLemmas.{IsRead-after, IsTold-after, IsTold-read, ReadsAtMost-after}
+use Rattle.bats_io.proofs.ReadLemmas.{IsRead-after, IsTold-after, IsTold-read}
 use Rattle.bats_io.specs.declared.failed.Failed.{Failed}
 use Rattle.bats_model.specs.declared.read_end.ReadEnd.{ReadEnd}
 use Rattle.bats_model.specs.declared.read_end.ReadEnd.TheVariants as ends
-use Rattle.bats_format.specs.Filling.{IsFilled, FailsWithin, Fills, IsPart, EndsWithin, PartIsFilled, FillsPart}
+use Rattle.bats_format.specs.Filling.{IsFilled, ReadsFewer, FailsWithin, Fills, IsPart, EndsWithin, PartIsFilled, FillsPart}
 
 -- ---- the loop of a filling
 
@@ -29,7 +29,7 @@ IsRead-filled a b c count got old new post h k p q =
     (IsRead-after a b c (take count old) (take got new) p q)
 
 -- a read that failed took nothing more
-pub FailsWithin-of : {before between after : InputState} (size count : ℕ) (old : List ℕ) → count ≤ size → IsRead before.left between.left (take count old)
+pub FailsWithin-of : {before between after : InputState} (size count : ℕ) (old : List ℕ) → count < size → IsRead before.left between.left (take count old)
     → between.faults ≡ before.faults → after.left ≡ between.left → Rose between.faults after.faults → FailsWithin before after size
 FailsWithin-of {before} {between} {after} size count old h p no_fault nothing fault = record {
   fault = subst (λ (n : ℕ). Rose n after.faults) no_fault fault;
@@ -80,11 +80,20 @@ pub FillsPart-cut : (before after : InputState) (offset : ℕ) (part : List ℕ)
     → FillsPart before after offset part (Err (ends.Truncated offset))
 FillsPart-cut before after offset part count f h = record { as_far = (refl, EndsWithin-of before after part count f h) }
 
+-- fewer bytes than this, after some
+ReadsFewer-after : (a b c : Option (List ℕ)) (bytes : List ℕ) (size more : ℕ) → length bytes + size ≤ more → IsRead a b bytes
+    → ReadsFewer b c size → ReadsFewer a c more
+ReadsFewer-after a b c bytes size more h p q = record {
+  bytes = bytes ++ q.bytes;
+  read = IsRead-after a b c bytes q.bytes p q.read;
+  within = omega (arith, length-append bytes q.bytes, q.within);
+}
+
 FailsWithin-after : (before between after : InputState) (part : List ℕ) (size more : ℕ) → length part + size ≤ more → IsPart before between part
     → FailsWithin between after size → FailsWithin before after more
 FailsWithin-after before between after part size more h p f = record {
   fault = subst (λ (n : ℕ). Rose n after.faults) p.no_fault f.fault;
-  read = ReadsAtMost-after before.left between.left after.left part size more p.read f.read h;
+  read = ReadsFewer-after before.left between.left after.left part size more h p.read f.read;
 }
 
 EndsWithin-after : (before between after : InputState) (part : List ℕ) (size more : ℕ) → length part + size ≤ more → IsPart before between part
@@ -93,7 +102,7 @@ EndsWithin-after before between after part size more h p e = record {
   left = part ++ e.left;
   told = IsTold-after before.left between.left part e.left p.read e.told;
   short = omega (arith, length-append part e.left, e.short);
-  read = ReadsAtMost-after before.left between.left after.left part size more p.read e.read h;
+  read = ReadsFewer-after before.left between.left after.left part size more h p.read e.read;
   no_fault = e.no_fault ∙ p.no_fault;
 }
 

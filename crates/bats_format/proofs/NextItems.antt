@@ -162,7 +162,7 @@ refuses_input before after session records offset end s = record {
   left = s.left;
   told = s.told;
   is_refused = λ bytes list h. refused_after session records offset s.left bytes list end s.stop h;
-  read = record { bytes = s.read.bytes; read = s.read.read; within = s.read.within };
+  read = s.read;
   no_fault = s.no_fault;
 }
 
@@ -175,7 +175,7 @@ refuses_record before after session records offset ends.ReadFault other s =
       was_open = open_going (Some session) records offset;
       refused = refl;
       fault = s.fault;
-      read = record { bytes = s.read.bytes; read = s.read.read; within = s.read.within };
+      read = s.read;
     })
 refuses_record before after session records offset ends.NoHeader other s = inr (refuses_input before after session records offset _ s)
 refuses_record before after session records offset (ends.BadHeader field) other s = inr (refuses_input before after session records offset _ s)

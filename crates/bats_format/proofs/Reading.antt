@@ -1,6 +1,6 @@
 -- Records that are read, and why one isn't.
 use Rattle.std.specs.Prelude.{option_map, ◌==◌, ◌&&◌, not, nat_le, nat_lt}
-use Rattle.std.proofs.Common.{◌≡◌, ◌≢◌, ℕ, ◌+◌, ◌<◌, ◌≤◌, Bool, true, false, cond, zero, suc, ◌^◌, List, [], ◌∷◌, ◌++◌, length, take, drop, get_or, Option, None, Some, Result, Ok, Err, refl, sym, ap, subst, ◌∙◌, arith, length-append, length-take}
+use Rattle.std.proofs.Common.{◌≡◌, ◌≢◌, ℕ, ◌+◌, ◌<◌, ◌≤◌, Bool, true, false, cond, zero, suc, ◌^◌, List, [], ◌∷◌, ◌++◌, length, take, drop, get_or, append_assoc, append-nil, Option, None, Some, Result, Ok, Err, refl, sym, ap, subst, ◌∙◌, arith, length-append, length-take}
 use Rattle.std.specs.Int.{w32, to_be_bytes}
 use Rattle.std.proofs.lemmas.List.{take_all}
 use Rattle.std.proofs.lemmas.Slice.Eq.{bytes_eq-Decides}
@@ -22,9 +22,10 @@ use Rattle.bats_model.specs.declared.item.Item.TheVariants as items
 use Rattle.bats_model.specs.declared.read_end.HeaderField.{HeaderField}
 use Rattle.bats_model.specs.declared.read_end.ReadEnd.{ReadEnd}
 use Rattle.bats_model.specs.declared.read_end.ReadEnd.TheVariants as ends
-use Rattle.bats_format.specs.Filling.{IsFilled, IsPart, PartIsFilled, FillsPart}
-use Rattle.bats_format.specs.Taking.{FirstIs, StopsFirst, FirstStops, TakesFirst, ReadsWithin, FailsAt, most_of_record, IsStop, StopsAt, StopCause, Stops, TakesByte, TakesItem, TakesBody, RecordStops}
+use Rattle.bats_format.specs.Filling.{IsFilled, FailsWithin, IsPart, PartIsFilled, FillsPart}
+use Rattle.bats_format.specs.Taking.{HasNoRecord, FirstIs, StopsFirst, FirstStops, TakesFirst, ReadsWithin, FailsAt, most_of_record, IsStop, StopsAt, StopCause, Stops, TakesByte, TakesItem, TakesBody, RecordStops}
 use Rattle.bats_format.proofs.RecordLemmas.{same_parts, length-header_record, header_rest, header_record-begins, length-packet_record, packet_rest, packet_record-begins}
+use Rattle.bats_format.proofs.PacketFiles.{IsPacketFile-header}
 use Rattle.bats_format.proofs.Refusals.{front_begins}
 use Rattle.bats_format.proofs.Filled.{left_of, left_of-ended, IsTold-of}
 
@@ -144,6 +145,14 @@ no_packet_cut session offset (items.Header at) bytes more h place e =
 no_packet_cut session offset (items.Packet at packet) bytes more h place e =
     absurd (omega (arith, ap length e, length-packet_record session packet place.1, length-append (packet_record packet.batch packet.coefs packet.payload) more))
 
+-- fewer bytes than each record has
+no_short : (session : SessionData) (item : Item) (bytes more : List ℕ) → length bytes < 5 → bytes ≡ record_of session item ++ more → ⊥
+unfolding record_of header_record packet_record
+no_short session (items.Header at) bytes more h e =
+    absurd (omega (arith, ap length e, length-append (header_record session) more))
+no_short session (items.Packet at packet) bytes more h e =
+    absurd (omega (arith, ap length e, length-append (packet_record packet.batch packet.coefs packet.payload) more))
+
 -- ---- stops
 
 pub IsStop-full : (session : SessionData) (offset tag : ℕ) (bytes : List ℕ) → IsStop session most_records offset (tag ∷ bytes) ends.TooManyRecords
@@ -178,15 +187,20 @@ Stops-at {before} {after} {session} {records} {offset} {begun} {end} p = record 
 }
 
 -- a stop after bytes that were read
-reads_after : (before between after : InputState) (bytes : List ℕ) → IsPart before between bytes → ReadsWithin between.left after.left bytes
-    → ReadsWithin before.left after.left []
-reads_after before between after bytes p r =
-    record { bytes = bytes ++ r.bytes; read = IsRead-after before.left between.left after.left bytes r.bytes p.read r.read; within = r.within }
+reads_after : (before between after : InputState) (session : Option SessionData) (offset : ℕ) (bytes : List ℕ) → IsPart before between bytes
+    → ReadsWithin session offset between.left after.left bytes → ReadsWithin session offset before.left after.left []
+reads_after before between after session offset bytes p r = record {
+  bytes = bytes ++ r.bytes;
+  read = IsRead-after before.left between.left after.left bytes r.bytes p.read r.read;
+  within = r.within;
+  none = r.none;
+}
 
-fails_after : (before between after : InputState) (bytes : List ℕ) → IsPart before between bytes → FailsAt between after bytes → FailsAt before after []
-fails_after before between after bytes p f = record {
+fails_after : (before between after : InputState) (session : Option SessionData) (offset : ℕ) (bytes : List ℕ) → IsPart before between bytes
+    → FailsAt between after session offset bytes → FailsAt before after session offset []
+fails_after before between after session offset bytes p f = record {
   fault = subst (λ (n : ℕ). Rose n after.faults) p.no_fault f.fault;
-  read = reads_after before between after bytes p f.read;
+  read = reads_after before between after session offset bytes p f.read;
 }
 
 stops_after : (before between after : InputState) (session : SessionData) (records offset : ℕ) (bytes : List ℕ) (end : ReadEnd)
@@ -195,14 +209,14 @@ stops_after before between after session records offset bytes end p s = record {
   left = bytes ++ s.left;
   told = IsTold-after before.left between.left bytes s.left p.read s.told;
   stop = s.stop;
-  read = reads_after before between after bytes p s.read;
+  read = reads_after before between after (Some session) offset bytes p s.read;
   no_fault = s.no_fault ∙ p.no_fault;
 }
 
 stop_after : (before between after : InputState) (session : SessionData) (records offset : ℕ) (bytes : List ℕ) (end : ReadEnd)
     → IsPart before between bytes → StopCause between after session records offset bytes end → StopCause before after session records offset [] end
 stop_after before between after session records offset bytes ends.Memory p s = s
-stop_after before between after session records offset bytes ends.ReadFault p s = fails_after before between after bytes p s
+stop_after before between after session records offset bytes ends.ReadFault p s = fails_after before between after (Some session) offset bytes p s
 stop_after before between after session records offset bytes ends.NoHeader p s = stops_after before between after session records offset bytes _ p s
 stop_after before between after session records offset bytes (ends.BadHeader field) p s = stops_after before between after session records offset bytes _ p s
 stop_after before between after session records offset bytes (ends.BadTag at byte) p s = stops_after before between after session records offset bytes _ p s
@@ -243,6 +257,21 @@ read_byte : (before after : InputState) (buffer : List ℕ) (count : ℕ) → le
 read_byte before after buffer count size some f =
     subst (λ (bytes : List ℕ). IsRead before.left after.left bytes) (first_byte buffer count size (omega (arith, f.within)) some) f.read
 
+-- the first byte of a record could not be read
+pub Stops-untagged : {before after : InputState} {records offset : ℕ} (size : ℕ) → size ≡ 1 → FailsWithin before after size
+    → (session : SessionData) → Stops before after session records offset [] ends.ReadFault
+Stops-untagged {before} {after} {records} {offset} size one f session = record {
+  cause = record {
+    fault = f.fault;
+    read = record {
+      bytes = f.read.bytes;
+      read = f.read.read;
+      within = omega (arith, f.read.within);
+      none = λ item more place e. no_short session item f.read.bytes more (omega (arith, f.read.within)) e;
+    };
+  };
+}
+
 pub Stops-tag : {before after : InputState} {records offset : ℕ} {end : ReadEnd} (buffer : List ℕ) (count : ℕ) → length buffer ≡ 1 → count ≢ 0
     → IsFilled before after buffer count
     → ((session : SessionData) (rest : List ℕ) → IsStop session records offset (get_or buffer 0 0 ∷ rest) end)
@@ -252,7 +281,12 @@ Stops-tag {before} {after} {records} {offset} {end} buffer count size some f sto
       left = get_or buffer 0 0 ∷ left_of after.left;
       told = IsTold-of before.left after.left (get_or buffer 0 0 ∷ []) (read_byte before after buffer count size some f);
       stop = stop session (left_of after.left);
-      read = record { bytes = get_or buffer 0 0 ∷ []; read = read_byte before after buffer count size some f; within = omega arith };
+      read = record {
+        bytes = get_or buffer 0 0 ∷ [];
+        read = read_byte before after buffer count size some f;
+        within = omega arith;
+        none = λ item more place e. no_short session item (get_or buffer 0 0 ∷ []) more (omega arith) e;
+      };
       no_fault = f.no_fault;
     })
 
@@ -395,6 +429,14 @@ first_stops before after (ends.OtherSession at) h p = p
 first_stops before after (ends.Truncated at) h p = p
 first_stops before after ends.TooManyRecords h p = p
 
+-- what begins an input that is refused at its first record is no header
+none_begun : (begun rest : List ℕ) (end : ReadEnd) → RefusesHeader (begun ++ rest) end → HasNoRecord None 0 begun
+none_begun begun rest end r session more h e =
+    r.none session (items.Header 0 ∷ []) (header_record session) (more ++ rest) (record {
+      file = IsPacketFile-header session h;
+      split = ap (λ (front : List ℕ). front ++ rest) e ∙ append_assoc (header_record session) more rest;
+    })
+
 pub TakesFirst-of : {before after : InputState} (bytes : List ℕ) (count : ℕ) (result : Result SessionData ReadEnd) → length bytes ≡ header_size
     → IsFilled before after bytes count → FirstIs bytes count result → TakesFirst before after result
 TakesFirst-of {before} {after} bytes count (Ok session) size f p = record {
@@ -410,9 +452,28 @@ TakesFirst-of {before} {after} bytes count (Err end) size f p =
       left = take count bytes ++ left_of after.left;
       told = IsTold-of before.left after.left (take count bytes) f.read;
       refused = refused;
-      read = record { bytes = take count bytes; read = f.read; within = omega (arith, length-take count bytes) };
+      read = record {
+        bytes = take count bytes;
+        read = f.read;
+        within = omega (arith, length-take count bytes);
+        none = none_begun (take count bytes) (left_of after.left) end refused;
+      };
       no_fault = f.no_fault;
     })
+
+-- the first header could not be read
+pub FirstStops-unread : {before after : InputState} (size : ℕ) → size ≡ header_size → FailsWithin before after size
+    → FirstStops before after ends.ReadFault
+FirstStops-unread {before} {after} size is f = record {
+  fault = f.fault;
+  read = record {
+    bytes = f.read.bytes;
+    read = f.read.read;
+    within = omega (arith, f.read.within);
+    none = λ session more h e.
+        absurd (omega (arith, f.read.within, ap length e, length-append (header_record session) more, length-header_record session h));
+  };
+}
 
 -- ---- a repeat of the header
 
@@ -426,29 +487,40 @@ IsStop-header_cut session records offset bytes size more short = record {
 -- a cut body, of so many bytes
 cut_stops : (before after : InputState) (session : SessionData) (records offset byte : ℕ) (part : List ℕ) (end : ReadEnd)
     → length part < most_of_record
+    → ((bytes : List ℕ) → length bytes < length part → HasNoRecord (Some session) offset (byte ∷ bytes))
     → ((bytes : List ℕ) → length bytes < length part → IsStop session records offset (byte ∷ bytes) (ends.Truncated offset))
     → PartIsFilled before after offset part (Err end) → Stops before after session records offset (byte ∷ []) end
-cut_stops before after session records offset byte part ends.Memory small stop p = absurd p
-cut_stops before after session records offset byte part ends.ReadFault small stop p = record {
+cut_stops before after session records offset byte part ends.Memory small none stop p = absurd p
+cut_stops before after session records offset byte part ends.ReadFault small none stop p = record {
   cause = record {
     fault = p.fault;
-    read = record { bytes = p.read.bytes; read = p.read.read; within = omega (arith, p.read.within) };
+    read = record {
+      bytes = p.read.bytes;
+      read = p.read.read;
+      within = omega (arith, p.read.within);
+      none = none p.read.bytes p.read.within;
+    };
   };
 }
-cut_stops before after session records offset byte part ends.NoHeader small stop p = absurd p
-cut_stops before after session records offset byte part (ends.BadHeader field) small stop p = absurd p
-cut_stops before after session records offset byte part (ends.BadTag at other) small stop p = absurd p
-cut_stops before after session records offset byte part (ends.OtherSession at) small stop p = absurd p
-cut_stops before after session records offset byte part (ends.Truncated at) small stop p = record {
+cut_stops before after session records offset byte part ends.NoHeader small none stop p = absurd p
+cut_stops before after session records offset byte part (ends.BadHeader field) small none stop p = absurd p
+cut_stops before after session records offset byte part (ends.BadTag at other) small none stop p = absurd p
+cut_stops before after session records offset byte part (ends.OtherSession at) small none stop p = absurd p
+cut_stops before after session records offset byte part (ends.Truncated at) small none stop p = record {
   cause = record {
     left = p.1.left;
     told = p.1.told;
     stop = subst (λ (place : ℕ). IsStop session records offset (byte ∷ p.1.left) (ends.Truncated place)) (sym p.0) (stop p.1.left p.1.short);
-    read = record { bytes = p.1.read.bytes; read = p.1.read.read; within = omega (arith, p.1.read.within) };
+    read = record {
+      bytes = p.1.read.bytes;
+      read = p.1.read.read;
+      within = omega (arith, p.1.read.within);
+      none = none p.1.read.bytes p.1.read.within;
+    };
     no_fault = p.1.no_fault;
   };
 }
-cut_stops before after session records offset byte part ends.TooManyRecords small stop p = absurd p
+cut_stops before after session records offset byte part ends.TooManyRecords small none stop p = absurd p
 
 body_exit : (before after : InputState) (session : SessionData) (offset byte : ℕ) (end : ReadEnd) (result : Result Item ReadEnd) → IsErrAnd result (λ y. y ≡ end)
     → ((records : ℕ) → records ≢ most_records → Stops before after session records offset (byte ∷ []) end)
@@ -465,6 +537,7 @@ pub TakesBody-header_exit : {before after : InputState} {offset : ℕ} {part : L
 TakesBody-header_exit {before} {after} {offset} {part} {end} session result size length_is h p =
     body_exit before after session offset header_tag end result h
     (λ records more. cut_stops before after session records offset header_tag part end (omega arith)
+    (λ bytes short item rest place e. no_header_cut session offset item bytes rest size (omega arith) e)
     (λ bytes short. IsStop-header_cut session records offset bytes size more (omega arith)) p.as_far)
 
 -- a whole header of another session
@@ -482,7 +555,13 @@ Stops-other {before} {after} {session} {offset} part size length_is differs p re
           none = λ item rest place e few. no_other_header session item part (left_of after.left) rest size length_is differs e;
           refusal = refusal-other offset records (part ++ left_of after.left) more (omega (arith, length-append part (left_of after.left)));
         };
-        read = record { bytes = part; read = filled.read; within = omega arith };
+        read = record {
+          bytes = part;
+          read = filled.read;
+          within = omega arith;
+          none = λ item rest place e.
+              no_other_header session item part [] rest size length_is differs (ap (λ (bytes : List ℕ). header_tag ∷ bytes) (append-nil part) ∙ e);
+        };
         no_fault = filled.no_fault;
       };
     }
@@ -543,6 +622,8 @@ TakesBody-packet_exit {before} {after} {offset} {end} session number coefs paylo
     body_exit before after session offset packet_tag end result h
     (λ records more. cut_stops before after session records offset packet_tag (number ++ coefs ++ payload) end
     (omega (arith, length-append (number ++ coefs) payload, length-append number coefs, is_session.m_high, is_session.t_high))
+    (λ bytes short item rest place e. no_packet_cut session offset item bytes rest
+    (omega (arith, length-append (number ++ coefs) payload, length-append number coefs)) place e)
     (λ bytes short. IsStop-packet_cut session records offset bytes more
     (omega (arith, length-append (number ++ coefs) payload, length-append number coefs)))
     p.as_far)

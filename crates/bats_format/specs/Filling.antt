@@ -1,7 +1,7 @@
 -- What the filling of a buffer leaves of a source.
-use Rattle.std.specs.Prelude.{ℕ, ◌≡◌, ◌<◌, ◌≤◌, List, length, take, Result, Ok, Err}
+use Rattle.std.specs.Prelude.{ℕ, ◌≡◌, ◌<◌, ◌≤◌, List, length, take, Option, Result, Ok, Err}
 use Rattle.bats_io.specs.Faults.{Rose}
-use Rattle.bats_io.specs.Streams.{InputState, IsTold, IsRead, IsEnded, ReadsAtMost}
+use Rattle.bats_io.specs.Streams.{InputState, IsTold, IsRead, IsEnded}
 use Rattle.bats_io.specs.declared.failed.Failed.{Failed}
 use Rattle.bats_model.specs.declared.read_end.ReadEnd.{ReadEnd}
 use Rattle.bats_model.specs.declared.read_end.ReadEnd.TheVariants as ends
@@ -13,10 +13,16 @@ pub record IsFilled (before after : InputState) (buffer : List ℕ) (count : ℕ
   pub end : count < length buffer → IsEnded after.left
   pub no_fault : after.faults ≡ before.faults
 
--- a read failed, after no more bytes than this
+-- fewer bytes than this were read
+pub record ReadsFewer (before after : Option (List ℕ)) (size : ℕ) : Type 0 where
+  pub bytes : List ℕ
+  pub read : IsRead before after bytes
+  pub within : length bytes < size
+
+-- a read failed, after fewer bytes than this
 pub record FailsWithin (before after : InputState) (size : ℕ) : Type 0 where
   pub fault : Rose before.faults after.faults
-  pub read : ReadsAtMost before.left after.left size
+  pub read : ReadsFewer before.left after.left size
 
 -- a buffer was filled as far as the input goes, or a read failed
 abbrev pub Fills : InputState → InputState → List ℕ → Result ℕ Failed → Type 0
@@ -33,7 +39,7 @@ pub record EndsWithin (before after : InputState) (size : ℕ) : Type 0 where
   pub left : List ℕ
   pub told : IsTold before.left left
   pub short : length left < size
-  pub read : ReadsAtMost before.left after.left size
+  pub read : ReadsFewer before.left after.left size
   pub no_fault : after.faults ≡ before.faults
 
 -- a part of the record at this offset was filled, or the input ended in it, or a read failed

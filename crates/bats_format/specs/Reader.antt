@@ -1,11 +1,11 @@
 -- What a reader of packet files holds, which bytes it has read, and what its next answer is.
 use Rattle.std.specs.Prelude.{ℕ, ◌≡◌, ◌≤◌, ◌+◌, ◌⊎◌, Bool, true, false, List, [], ◌∷◌, ◌++◌, length, Option, Some, None, Result, Ok, Err, IsSome}
 use Rattle.bats_io.specs.Faults.{Rose}
-use Rattle.bats_io.specs.Streams.{InputState, IsTold, IsRead, IsEnded, ReadsAtMost}
+use Rattle.bats_io.specs.Streams.{InputState, IsTold, IsRead, IsEnded}
 use Rattle.bats_model.specs.Session.{SessionData}
 use Rattle.bats_model.specs.PacketFile.{IsPacketFile, IsItemAt, record_of, most_records}
 use Rattle.bats_model.specs.Refusal.{RefusesHeader, RefusesRecord}
-use Rattle.bats_format.specs.Taking.{most_of_record}
+use Rattle.bats_format.specs.Taking.{ReadsWithin}
 use Rattle.bats_model.specs.declared.item.Item.{Item}
 use Rattle.bats_model.specs.declared.read_end.ReadEnd.{ReadEnd}
 use Rattle.bats_model.specs.declared.read_end.ReadEnd.TheVariants as ends
@@ -79,7 +79,7 @@ abbrev pub RefusesAfter : Option SessionData → List Item → List ℕ → Read
 RefusesAfter None list input end = RefusesHeader input end
 RefusesAfter (Some session) list input end = RefusesRecord input session list end
 
--- the input, which is what was read and what was left, is refused so
+-- the input, which is what was read and what was left, is refused so; no whole record was read
 pub record RefusesInput (before after : InputState) (reader reader' : ReaderData) (end : ReadEnd) : Type 0 where
   pub was_open : IsOpen reader
   pub refused : reader' ≡ record reader { refused = Some end }
@@ -87,15 +87,15 @@ pub record RefusesInput (before after : InputState) (reader reader' : ReaderData
   pub told : IsTold before.left left
   pub is_refused : (bytes : List ℕ) (list : List Item) → StandsFor bytes list reader
       → RefusesAfter reader.session list (bytes ++ left) end
-  pub read : ReadsAtMost before.left after.left most_of_record
+  pub read : ReadsWithin reader.session reader.offset before.left after.left []
   pub no_fault : after.faults ≡ before.faults
 
--- a read failed
+-- a read failed; no whole record was read
 pub record CannotRead (before after : InputState) (reader reader' : ReaderData) : Type 0 where
   pub was_open : IsOpen reader
   pub refused : reader' ≡ record reader { refused = Some ends.ReadFault }
   pub fault : Rose before.faults after.faults
-  pub read : ReadsAtMost before.left after.left most_of_record
+  pub read : ReadsWithin reader.session reader.offset before.left after.left []
 
 -- memory ran out, before anything was read
 pub record LacksMemory (before after : InputState) (reader reader' : ReaderData) : Type 0 where

@@ -1,7 +1,7 @@
 -- What the reading of one record leaves of a source, and what its answer is.
 use Rattle.std.specs.Prelude.{ℕ, ◌≡◌, ◌≢◌, ◌<◌, ◌≤◌, List, [], ◌∷◌, ◌++◌, length, take, Option, Some, None, Result, Ok, Err}
 use Rattle.bats_io.specs.Faults.{Rose}
-use Rattle.bats_io.specs.Streams.{InputState, IsTold, IsRead, IsEnded, ReadsAtMost}
+use Rattle.bats_io.specs.Streams.{InputState, IsTold, IsRead, IsEnded}
 use Rattle.bats_model.specs.Session.{SessionData, IsSession}
 use Rattle.bats_model.specs.Records.{header_record, header_tag, packet_tag}
 use Rattle.bats_model.specs.PacketFile.{IsItemAt, record_of, most_records}
@@ -9,13 +9,31 @@ use Rattle.bats_model.specs.Refusal.{RefusesHeader, header_size, first_refusal}
 use Rattle.bats_model.specs.declared.item.Item.{Item}
 use Rattle.bats_model.specs.declared.read_end.ReadEnd.{ReadEnd}
 use Rattle.bats_model.specs.declared.read_end.ReadEnd.TheVariants as ends
-use Rattle.bats_format.specs.Filling.{FailsWithin}
 use Rattle.bats_format.specs.declared.records.Tag.{Tag}
 use Rattle.bats_format.specs.declared.records.Tag.TheVariants as tags
 
 -- bytes of a record at most: a packet's with 32 coefficients and 2,048 bytes of payload
 abbrev pub most_of_record : ℕ
 most_of_record = 2085
+
+-- no whole record stands at the front of these bytes, which are those at the offset: none of the session, or, where no
+-- session is known yet, no header of any
+abbrev pub HasNoRecord : Option SessionData → ℕ → List ℕ → Type 0
+HasNoRecord None offset bytes = (session : SessionData) (more : List ℕ) → IsSession session → bytes ≡ header_record session ++ more → ⊥
+HasNoRecord (Some session) offset bytes =
+    (item : Item) (more : List ℕ) → IsItemAt session offset item → bytes ≡ record_of session item ++ more → ⊥
+
+-- bytes were read: behind those before, they make no whole record, and no more bytes than the longest has
+pub record ReadsWithin (session : Option SessionData) (offset : ℕ) (before after : Option (List ℕ)) (begun : List ℕ) : Type 0 where
+  pub bytes : List ℕ
+  pub read : IsRead before after bytes
+  pub within : length (begun ++ bytes) ≤ most_of_record
+  pub none : HasNoRecord session offset (begun ++ bytes)
+
+-- a read failed
+pub record FailsAt (before after : InputState) (session : Option SessionData) (offset : ℕ) (begun : List ℕ) : Type 0 where
+  pub fault : Rose before.faults after.faults
+  pub read : ReadsWithin session offset before.left after.left begun
 
 -- ---- the first record
 
@@ -42,12 +60,12 @@ pub record StopsFirst (before after : InputState) (end : ReadEnd) : Type 0 where
   pub left : List ℕ
   pub told : IsTold before.left left
   pub refused : RefusesHeader left end
-  pub read : ReadsAtMost before.left after.left most_of_record
+  pub read : ReadsWithin None 0 before.left after.left []
   pub no_fault : after.faults ≡ before.faults
 
 abbrev pub FirstStops : InputState → InputState → ReadEnd → Type 0
 FirstStops before after ends.Memory = ⊥
-FirstStops before after ends.ReadFault = FailsWithin before after most_of_record
+FirstStops before after ends.ReadFault = FailsAt before after None 0 []
 FirstStops before after end = StopsFirst before after end
 
 abbrev pub TakesFirst : InputState → InputState → Result SessionData ReadEnd → Type 0
@@ -62,28 +80,17 @@ pub record IsStop (session : SessionData) (records offset : ℕ) (bytes : List �
       → records < most_records → ⊥
   pub refusal : first_refusal offset records bytes ≡ Some end
 
--- bytes were read that with those before are no more than a record's
-pub record ReadsWithin (before after : Option (List ℕ)) (begun : List ℕ) : Type 0 where
-  pub bytes : List ℕ
-  pub read : IsRead before after bytes
-  pub within : length (begun ++ bytes) ≤ most_of_record
-
--- a read failed
-pub record FailsAt (before after : InputState) (begun : List ℕ) : Type 0 where
-  pub fault : Rose before.faults after.faults
-  pub read : ReadsWithin before.left after.left begun
-
 -- what was read before and what was left are refused so
 pub record StopsAt (before after : InputState) (session : SessionData) (records offset : ℕ) (begun : List ℕ) (end : ReadEnd) : Type 0 where
   pub left : List ℕ
   pub told : IsTold before.left left
   pub stop : IsStop session records offset (begun ++ left) end
-  pub read : ReadsWithin before.left after.left begun
+  pub read : ReadsWithin (Some session) offset before.left after.left begun
   pub no_fault : after.faults ≡ before.faults
 
 abbrev pub StopCause : InputState → InputState → SessionData → ℕ → ℕ → List ℕ → ReadEnd → Type 0
 StopCause before after session records offset begun ends.Memory = ⊥
-StopCause before after session records offset begun ends.ReadFault = FailsAt before after begun
+StopCause before after session records offset begun ends.ReadFault = FailsAt before after (Some session) offset begun
 StopCause before after session records offset begun end = StopsAt before after session records offset begun end
 
 -- a record of which these bytes were read before isn't given

@@ -19,7 +19,7 @@ pub use bytes::Bytes;
 pub use item::Item;
 pub use numbers::Nums;
 pub use packet::Packet;
-pub use plain::{is_plain, is_zero, unit_place};
+pub use plain::{is_plain, unit_place};
 pub use read_end::{HeaderField, ReadEnd};
 pub use session::{BadSession, Session};
 pub use systematic::unit_batch;

@@ -3,8 +3,8 @@ ghost use Rattle.bats_model.specs.Plain.{IsUnitAt, IsPlain};
 
 use crate::{Packet, Session};
 
-/// Whether each byte is 0.
-pub fn is_zero(bytes: &[u8]) -> bool
+// Whether each byte is 0.
+fn is_zero(bytes: &[u8]) -> bool
     ensures { IsTrue result ↔ ((k : ℕ) → k < length bytes.now → slice_index bytes.now k ≡ 0) }
 {
     for byte in bytes {

@@ -195,8 +195,10 @@ mod tests {
             (33, 0, 4097, 2, BadSession::BatchSize),
             (33, 1, 0, 0, BadSession::BatchSize),
             (32, 0, 4097, 2, BadSession::SymbolSize),
+            (32, 0, 4096, 0, BadSession::SymbolSize),
             (1, 2049, 0, 0, BadSession::SymbolSize),
             (1, 1, 4097, 2, BadSession::Table),
+            (1, 1, 4096, 2, BadSession::Table),
             (1, 1, 4097, 1, BadSession::TooLong { symbols: 4097 }),
             (1, 2, 8193, 0, BadSession::TooLong { symbols: 4097 }),
         ] {

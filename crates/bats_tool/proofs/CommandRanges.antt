@@ -1,5 +1,5 @@
 -- The ranges that the values of a command are held to.
-use Rattle.std.proofs.Common.{ℕ, ◌≡◌, ◌≤◌, Bool, true, false, ◌&&◌, cond, List, [], ◌∷◌, subst, Option, None, Some, arith, rules}
+use Rattle.std.proofs.Common.{ℕ, ◌≡◌, ◌≤◌, Bool, ◌&&◌, cond, List, subst, Option, None, Some, arith, rules}
 use Rattle.std.proofs.lemmas.Bool.Decides.{nat_tests}
 use Rattle.std.specs.Prelude.{codes, nat_le}
 use Rattle.std.specs.Option.{option_and_then}
@@ -9,9 +9,8 @@ use Rattle.bats_tool.specs.declared.command.Command.{Command}
 use Rattle.bats_tool.specs.declared.command.Command.TheVariants.{Source, Sink, Show}
 use Rattle.bats_tool.specs.Options.{InRanges}
 use Rattle.bats_tool.specs.WordValues.{number_in, is_number_word, seed_of}
-use Rattle.bats_tool.specs.WordItems.{KnownNames, read_items, value_of, is_there}
-use Rattle.bats_tool.specs.Words.{command_of, read_by, read_or, source_of, source_names, sink_of, sink_names, show_of, show_names}
-use Rattle.bats_tool.proofs.CommandWords.{Builder}
+use Rattle.bats_tool.specs.Words.{command_of, read_or, source_of, sink_of, show_of}
+use Rattle.bats_tool.proofs.EachCommand.{command_of-keeps}
 
 in_range : (b : Bool) (low v high n : ℕ) → cond (b && nat_le low v && nat_le v high) (Some v) None ≡ Some n → (low ≤ n) × (n ≤ high)
 in_range b low v high n h =
@@ -80,27 +79,7 @@ show_of-ranges value flag command h =
 
 -- ---- all of them
 
--- a command that is read has its values in their ranges where its builder keeps to them
-read_by-ranges : (known : KnownNames) (build : Builder)
-    → ((value : List ℕ → Option (List ℕ)) (flag : List ℕ → Bool) (command : Command) → build value flag ≡ Some command → InRanges command)
-    → (words : List (List ℕ)) (command : Command) → read_by known build words ≡ Some command → InRanges command
-read_by-ranges known build within words command h =
-    option_and_then_some _ (read_items known words) command h (λ items items_is rest.
-    within (λ name. value_of name items) (λ name. is_there name items) command rest)
-
-by_choice : (b : Bool) (o p : Option Command) (command : Command) → (o ≡ Some command → InRanges command) → (p ≡ Some command → InRanges command)
-    → cond b o p ≡ Some command → InRanges command
-by_choice true o p command first other h = first h
-by_choice false o p command first other h = other h
-
-no_command : (command : Command) → None ≡ Some command → InRanges command
-no_command command h = cc
-
 -- each command has its values in their ranges
 pub command_of-ranges : (words : List (List ℕ)) (command : Command) → command_of words ≡ Some command → InRanges command
-unfolding command_of
-command_of-ranges [] command h = cc
-command_of-ranges (name ∷ words) command h =
-    by_choice _ _ _ command (read_by-ranges source_names source_of source_of-ranges words command) (
-    by_choice _ _ _ command (read_by-ranges sink_names sink_of sink_of-ranges words command) (
-    by_choice _ _ _ command (read_by-ranges show_names show_of show_of-ranges words command) (no_command command))) h
+command_of-ranges words command h =
+    command_of-keeps (λ (c : Command). InRanges c) source_of-ranges sink_of-ranges show_of-ranges words command h

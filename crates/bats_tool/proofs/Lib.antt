@@ -23,3 +23,9 @@ pub mod ShowSteps
 pub mod SinkAnswers
 pub mod SinkAttempts
 pub mod OneEnding
+pub mod SentPackets
+pub mod GivenBack
+pub mod AllSymbols
+pub mod EachCommand
+pub mod CommandSeeds
+pub mod SourceAndSink

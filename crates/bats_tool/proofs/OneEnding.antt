@@ -58,7 +58,7 @@ same_refused input session other list others end last h k =
     (same.0, same.1)
 
 -- a reading that ends at a refusal is one
-refused : (input : List ℕ) (session : Option SessionData) (list : List Item) (end : ReadEnd) → IsReading input session list (Some end)
+pub refused : (input : List ℕ) (session : Option SessionData) (list : List Item) (end : ReadEnd) → IsReading input session list (Some end)
     → IsRefused input end
 refused input None list end h = inl h.1
 refused input (Some session) list end h = inr (session, list, h)

@@ -1,16 +1,16 @@
 -- One item after another is received.
-use Rattle.std.proofs.Common.{ℕ, ◌≡◌, Bool, true, List, [], ◌∷◌, ◌++◌, Option, None, Some, Result, Ok, Err, refl, sym, ap, ◌∙◌, subst, inl, inr, append-nil}
+use Rattle.std.proofs.Common.{ℕ, ◌≡◌, Bool, true, List, [], ◌∷◌, ◌++◌, length, Option, None, Some, Result, Ok, Err, refl, sym, ap, ◌∙◌, subst, inl, inr, append-nil}
 use Rattle.std.specs.Prelude.{IsSome}
 use Rattle.std.specs.List.{All}
 use Rattle.std.specs.Result.{IsErrAnd}
 use Rattle.std.proofs.lemmas.Result.{err_from_is_err_and}
-use Rattle.std.proofs.lemmas.List.Elements.{All-append, All-nil, All-push}
+use Rattle.std.proofs.lemmas.List.Elements.{All-append, All-head, All-tail, All-nil, All-push}
 use Rattle.bats_io.specs.Faults.{Rose}
-use Rattle.bats_io.specs.Streams.{InputState, ReadsAtMost}
+use Rattle.bats_io.specs.Streams.{InputState}
 use Rattle.bats_io.proofs.ReadLemmas.{IsRead-nothing, IsRead-after, IsTold-after, IsTold-read, told_or, IsTold-told_or}
 use Rattle.bats_model.specs.Session.{SessionData}
 use Rattle.bats_model.specs.Plain.{IsPlain}
-use Rattle.bats_model.specs.PacketFile.{IsPacketFile, BeginsWithHeader, record_of, packets_of}
+use Rattle.bats_model.specs.PacketFile.{IsPacketFile, IsItemAt, BeginsWithHeader, record_of, packets_of}
 use Rattle.bats_model.specs.declared.packet.Packet.{Packet}
 use Rattle.bats_model.specs.declared.item.Item.{Item}
 use Rattle.bats_model.specs.declared.item.Item.TheVariants as items
@@ -19,11 +19,12 @@ use Rattle.bats_model.specs.declared.read_end.ReadEnd.TheVariants as ends
 use Rattle.bats_format.specs.Reader as reader_specs
 use Rattle.bats_format.specs.Reader.{ReaderData, IsOpen, Nexts, GivesItem, GivesEnd, Refuses, RefusesAgain, RefusesInput, RefusesAfter, HasReadAs}
 use Rattle.bats_format.proofs.JoinedFiles.{packets_of-append}
+use Rattle.bats_format.proofs.RecordLemmas.{same_items}
 use Rattle.bats_decode.specs.Decoder as decoder_specs
 use Rattle.bats_decode.specs.Decoder.{DecoderData}
-use Rattle.bats_format.specs.Taking.{most_of_record}
+use Rattle.bats_format.specs.Taking.{ReadsWithin}
 use Rattle.bats_tool.specs.Commands.{ReadsRecords}
-use Rattle.bats_tool.proofs.RecordsRead.{ReadsRecords-begun, ReadsAtMost-record, ReadsAtMost-nothing, unread}
+use Rattle.bats_tool.proofs.RecordsRead.{ReadsRecords-begun, record_of-within, ReadsWithin-nothing, ReadsWithin-same, unread}
 use Rattle.bats_tool.proofs.ReaderAnswers.{not_again, file_of, still_ended}
 use Rattle.bats_tool.specs.Sink.{ArePlain}
 use Rattle.bats_tool.specs.Receiving.{HasReceived, Halts, TakesIn, TakesItem, IsNotPlain, IsRefusedAfter, MeetsNotPlain, ReceivesNext, Receives, ReceivesHeader, IsFresh, HasReceivedAll}
@@ -39,6 +40,12 @@ unfolding packets_of
 TakesIn-packet session at packet d d' plain same stands =
     record { plain = All-push (IsPlain session) [] packet (All-nil (IsPlain session)) plain; same_session = same; stands = stands }
 
+-- a plain packet
+pub plain_packet : (session : SessionData) (at : ℕ) (packet : Packet) → IsPlain session packet
+    → All (IsPlain session) (packets_of (items.Packet at packet ∷ []))
+unfolding packets_of
+plain_packet session at packet plain = All-push (IsPlain session) [] packet (All-nil (IsPlain session)) plain
+
 pub TakesIn-header : (session : SessionData) (at : ℕ) (d : DecoderData) → TakesIn session (items.Header at) d d
 unfolding packets_of
 TakesIn-header session at d = record {
@@ -49,12 +56,40 @@ TakesIn-header session at d = record {
 
 -- ---- one item more
 
--- what was received, and then no more than a record
-reads_begun : (start x y : InputState) (r : ReaderData) (d : DecoderData) → HasReceived start x r d → ReadsAtMost x.left y.left most_of_record
-    → ReadsRecords true start.left y.left
+-- plain packets, and then those of an item
+plain_more : (session : SessionData) (list : List Item) (item : Item) → All (IsPlain session) (packets_of list)
+    → All (IsPlain session) (packets_of (item ∷ [])) → All (IsPlain session) (packets_of (list ++ item ∷ []))
+plain_more session list item plain more =
+    subst (λ (xs : List Packet). All (IsPlain session) xs) (sym (packets_of-append list (item ∷ [])))
+    (All-append (IsPlain session) (packets_of list) (packets_of (item ∷ [])) plain more)
+
+not_plain_of : (session : SessionData) (item other : Item) → item ≡ other → IsNotPlain session item → IsNotPlain session other
+not_plain_of session item other e n = subst (λ (i : Item). IsNotPlain session i) e n
+
+one_not_plain : (session : SessionData) (at : ℕ) (packet : Packet) → ¬ IsPlain session packet
+    → All (IsPlain session) (packets_of (items.Packet at packet ∷ [])) → ⊥
+unfolding packets_of
+one_not_plain session at packet n plain = n (All-head (IsPlain session) packet [] plain)
+
+All-append_right : {X : Type 0} (P : X → Type 0) (xs ys : List X) → All P (xs ++ ys) → All P ys
+All-append_right P [] ys h = h
+All-append_right P (x ∷ xs) ys h = All-append_right P xs ys (All-tail P x (xs ++ ys) h)
+
+-- items of which the last is no plain packet
+stops_at : (session : SessionData) (list : List Item) (item : Item) → IsNotPlain session item
+    → All (IsPlain session) (packets_of (list ++ item ∷ [])) → ⊥
+stops_at session list item n plain =
+    one_not_plain session n.at n.packet n.not_plain
+    (subst (λ (i : Item). All (IsPlain session) (packets_of (i ∷ []))) n.item_is
+    (All-append_right (IsPlain session) (packets_of list) (packets_of (item ∷ []))
+    (subst (λ (xs : List Packet). All (IsPlain session) xs) (packets_of-append list (item ∷ [])) plain)))
+
+-- what was received, and then no whole record
+reads_begun : (start x y : InputState) (r : ReaderData) (d : DecoderData) → HasReceived start x r d
+    → ReadsWithin r.session r.offset x.left y.left [] → ReadsRecords true start.left y.left
 reads_begun start x y r d h q =
     ReadsRecords-begun true r.session h.bytes h.list r start.left x.left y.left h.reader_stands.read
-    (subst (λ (s : Option SessionData). ArePlain s h.list) (sym h.session) h.plain) h.read q
+    (subst (λ (s : Option SessionData). ArePlain s h.list) (sym h.session) h.plain) h.read r.offset h.reader_stands.offset q
 
 -- the session of an item that was read is the reader's
 session_of : (one two : Option SessionData) (s t : SessionData) → one ≡ Some s → (IsSome one → one ≡ Some t) → t ≡ s
@@ -82,14 +117,44 @@ HasReceived-more start x y r r' d d' item h g t =
       no_fault = g.no_fault ∙ h.no_fault;
     }
 
--- what was received, and then one record
+-- what was received, and then a record more after which the command reads on
 reads_item : (start x y : InputState) (r r' : ReaderData) (d : DecoderData) (item : Item) → HasReceived start x r d
-    → GivesItem x y r r' item → ReadsRecords true start.left y.left
-reads_item start x y r r' d item h g =
+    → GivesItem x y r r' item → All (IsPlain d.session) (packets_of (item ∷ [])) → ReadsRecords true start.left y.left
+reads_item start x y r r' d item h g plain =
+    let same : g.session ≡ d.session = session_of r.session r'.session d.session g.session h.session g.same_session in
+    let stands = g.stands h.bytes h.list h.reader_stands in
+    ReadsRecords-begun true r'.session (h.bytes ++ record_of g.session item) (h.list ++ item ∷ []) r' start.left y.left y.left stands.read
+    (subst (λ (s : Option SessionData). ArePlain s (h.list ++ item ∷ [])) (sym (g.session_is ∙ ap Some same))
+    (plain_more d.session h.list item h.plain plain))
+    (IsRead-after start.left x.left y.left h.bytes (record_of g.session item) h.read g.taken)
+    r'.offset stands.offset (ReadsWithin-same r'.session r'.offset y.left)
+
+-- what was received, and then exactly the record of a packet that isn't plain
+reads_not_plain : (start x y : InputState) (r r' : ReaderData) (d : DecoderData) (item : Item) → HasReceived start x r d
+    → GivesItem x y r r' item → IsNotPlain d.session item → ReadsRecords true start.left y.left
+reads_not_plain start x y r r' d item h g n =
+    let same : g.session ≡ d.session = session_of r.session r'.session d.session g.session h.session g.same_session in
     let stands = g.stands h.bytes h.list h.reader_stands in
     let file : IsPacketFile g.session (h.list ++ item ∷ []) (h.bytes ++ record_of g.session item) =
     file_of r'.session g.session (h.bytes ++ record_of g.session item) (h.list ++ item ∷ []) r' stands.read g.session_is in
-    reads_begun start x y r d h (ReadsAtMost-record g.session r.offset item x.left y.left file.is_session g.place g.taken)
+    let place : IsItemAt d.session (length h.bytes) item =
+    subst (λ (at : ℕ). IsItemAt d.session at item) h.reader_stands.offset
+    (subst (λ (s : SessionData). IsItemAt s r.offset item) same g.place) in
+    record {
+      session = Some d.session;
+      list = h.list;
+      front = h.bytes;
+      begun = record_of g.session item;
+      records = file_of r.session d.session h.bytes h.list r h.reader_stands.read h.session;
+      reads_on = h.plain;
+      read = IsRead-after start.left x.left y.left h.bytes (record_of g.session item) h.read g.taken;
+      within = record_of-within g.session r.offset item file.is_session g.place;
+      stops = λ other more at e.
+          let first : record_of d.session item ++ [] ≡ record_of d.session other ++ more =
+          append-nil (record_of d.session item) ∙ ap (λ (s : SessionData). record_of s item) (sym same) ∙ e in
+          let one = same_items d.session (length h.bytes) item other [] more place at first in
+          (sym one.rest, λ plain. stops_at d.session h.list other (not_plain_of d.session item other one.same n) plain);
+    }
 
 -- a packet that isn't plain
 pub Halts-not_plain : (start x y : InputState) (r r' : ReaderData) (d : DecoderData) (item : Item) → HasReceived start x r d
@@ -117,14 +182,14 @@ Halts-not_plain start x y r r' d item h g n =
       };
       plain = h.plain;
       not_plain = n.not_plain;
-      reads = reads_item start x y r r' d item h g;
+      reads = reads_not_plain start x y r r' d item h g n;
       no_fault = g.no_fault ∙ h.no_fault;
     }
 
 pub Halts-item : (start x y : InputState) (r r' : ReaderData) (d d' : DecoderData) (item : Item) (halt : Halt) → HasReceived start x r d
     → GivesItem x y r r' item → TakesItem d.session item d d' (Err halt) → Halts start y halt
 Halts-item start x y r r' d d' item halts.NotPlain h g t = Halts-not_plain start x y r r' d item h g t
-Halts-item start x y r r' d d' item (halts.Input ends.Memory) h g t = (g.no_fault ∙ h.no_fault, reads_item start x y r r' d item h g)
+Halts-item start x y r r' d d' item (halts.Input ends.Memory) h g t = (g.no_fault ∙ h.no_fault, reads_item start x y r r' d item h g t)
 Halts-item start x y r r' d d' item (halts.Input ends.ReadFault) h g t = absurd t
 Halts-item start x y r r' d d' item (halts.Input ends.NoHeader) h g t = absurd t
 Halts-item start x y r r' d d' item (halts.Input (ends.BadHeader field)) h g t = absurd t
@@ -163,7 +228,7 @@ pub Halts-refused : (start x y : InputState) (r r' : ReaderData) (d : DecoderDat
     → Refuses x y r r' end → Halts start y (halts.Input end)
 Halts-refused start x y r r' d ends.Memory h q = (
   ap (λ (s : InputState). s.faults) q.nothing_read ∙ h.no_fault,
-  reads_begun start x y r d h (unread x y q.nothing_read),
+  reads_begun start x y r d h (unread r.session r.offset x y q.nothing_read),
 )
 Halts-refused start x y r r' d ends.ReadFault h (inl q) = absurd (not_again h.is_open q)
 Halts-refused start x y r r' d ends.ReadFault h (inr q) =
@@ -227,11 +292,12 @@ ReceivesHeader-read x y r r' item s e g is decoder same stands =
       no_fault = g.no_fault;
     }
 
--- at most a record was read
-reads_first : (x y : InputState) (r : ReaderData) → IsFresh r → ReadsAtMost x.left y.left most_of_record → ReadsRecords true x.left y.left
+-- no whole record was read
+reads_first : (x y : InputState) (r : ReaderData) → IsFresh r → ReadsWithin r.session r.offset x.left y.left [] → ReadsRecords true x.left y.left
 reads_first x y r e q =
     ReadsRecords-begun true r.session [] [] r x.left x.left y.left (fresh_stands r e).read
-    (subst (λ (s : Option SessionData). ArePlain s []) (sym (fresh_session r e)) tt) (IsRead-nothing x.left) q
+    (subst (λ (s : Option SessionData). ArePlain s []) (sym (fresh_session r e)) tt) (IsRead-nothing x.left) r.offset
+    (fresh_stands r e).offset q
 
 refused_first : (x y : InputState) (r r' : ReaderData) (end : ReadEnd) → IsFresh r → RefusesInput x y r r' end → IsRefusedAfter x y end
 refused_first x y r r' end e q = record {
@@ -252,7 +318,7 @@ refused_first x y r r' end e q = record {
 pub ReceivesHeader-refused : (x y : InputState) (r r' : ReaderData) (end : ReadEnd) → IsFresh r → Refuses x y r r' end
     → ReceivesHeader x y r' (Err (halts.Input end))
 ReceivesHeader-refused x y r r' ends.Memory e q =
-    (ap (λ (s : InputState). s.faults) q.nothing_read, reads_first x y r e (unread x y q.nothing_read))
+    (ap (λ (s : InputState). s.faults) q.nothing_read, reads_first x y r e (unread r.session r.offset x y q.nothing_read))
 ReceivesHeader-refused x y r r' ends.ReadFault e (inl q) = absurd (not_again (fresh_open r e) q)
 ReceivesHeader-refused x y r r' ends.ReadFault e (inr q) = (q.fault, reads_first x y r e q.read)
 ReceivesHeader-refused x y r r' ends.NoHeader e (inl q) = absurd (not_again (fresh_open r e) q)
@@ -283,6 +349,6 @@ HasReceivedAll-end start x y r r' d h g =
       file = file_of r.session d.session h.bytes h.list r h.reader_stands.read h.session;
       decoder_stands = h.decoder_stands;
       plain = h.plain;
-      reads = reads_begun start x y r d h (ReadsAtMost-nothing x.left y.left most_of_record g.nothing_read);
+      reads = reads_begun start x y r d h (ReadsWithin-nothing r.session r.offset x.left y.left g.nothing_read);
       no_fault = g.no_fault ∙ h.no_fault;
     }

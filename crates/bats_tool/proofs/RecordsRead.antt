@@ -1,26 +1,34 @@
 -- How far a packet file was read.
-use Rattle.std.proofs.Common.{ℕ, Bool, List, [], Option, None, Some, arith, ◌≡◌, sym, subst}
-use Rattle.bats_io.specs.Streams.{InputState, IsRead, ReadsAtMost}
+use Rattle.std.proofs.Common.{ℕ, Bool, List, [], ◌≡◌, ◌≤◌, length, Option, None, Some, arith, sym, ap, subst, length-append}
+use Rattle.bats_io.specs.Streams.{InputState, IsRead}
 use Rattle.bats_io.proofs.ReadLemmas.{IsRead-nothing, IsRead-after}
 use Rattle.bats_model.specs.Session.{SessionData, IsSession}
+use Rattle.bats_model.specs.Records.{header_record}
 use Rattle.bats_model.specs.PacketFile.{IsItemAt, record_of}
 use Rattle.bats_model.specs.declared.item.Item.{Item}
 use Rattle.bats_model.specs.declared.item.Item.TheVariants as items
 use Rattle.bats_format.specs.Reader.{ReaderData, HasReadAs}
-use Rattle.bats_format.specs.Taking.{most_of_record}
-use Rattle.bats_format.proofs.RecordLemmas.{length-header_record, length-packet_record}
-use Rattle.bats_tool.specs.Commands.{AreRecords, ReadsOn, ReadsRecords}
+use Rattle.bats_format.specs.Taking.{most_of_record, HasNoRecord, ReadsWithin}
+use Rattle.bats_format.proofs.RecordLemmas.{length-header_record, length-packet_record, record_of-some}
+use Rattle.bats_tool.specs.Commands.{AreRecords, ReadsOn, StopsWithin, ReadsRecords}
 
 pub are_records : (session : Option SessionData) (bytes : List ℕ) (list : List Item) (reader : ReaderData) → HasReadAs session bytes list reader
     → AreRecords session list bytes
 are_records None bytes list reader h = h
 are_records (Some session) bytes list reader h = h
 
+-- bytes that are no whole record
+pub stops_within : (plain : Bool) (session : Option SessionData) (list : List Item) (front begun : List ℕ) (offset : ℕ) → offset ≡ length front
+    → HasNoRecord session offset begun → StopsWithin plain session list front begun
+stops_within plain None list front begun offset e none = none
+stops_within plain (Some session) list front begun offset e none = λ item more place same.
+    absurd (none item more (subst (λ (at : ℕ). IsItemAt session at item) (sym e) place) same)
+
 -- the records that a reader has read, and then a part of the next
 unfoldable pub ReadsRecords-begun : (plain : Bool) (session : Option SessionData) (bytes : List ℕ) (list : List Item) (reader : ReaderData)
     (a b c : Option (List ℕ)) → HasReadAs session bytes list reader → ReadsOn plain session list → IsRead a b bytes
-    → ReadsAtMost b c most_of_record → ReadsRecords plain a c
-ReadsRecords-begun plain session bytes list reader a b c h on r q = record {
+    → (offset : ℕ) → offset ≡ length bytes → ReadsWithin session offset b c [] → ReadsRecords plain a c
+ReadsRecords-begun plain session bytes list reader a b c h on r offset e q = record {
   session = session;
   list = list;
   front = bytes;
@@ -29,27 +37,32 @@ ReadsRecords-begun plain session bytes list reader a b c h on r q = record {
   reads_on = on;
   read = IsRead-after a b c bytes q.bytes r q.read;
   within = q.within;
+  stops = stops_within plain session list bytes q.bytes offset e q.none;
 }
+
+-- no record is empty
+none_empty : (session : Option SessionData) (offset : ℕ) → HasNoRecord session offset []
+none_empty None offset = λ session more h e.
+    absurd (omega (arith, ap length e, length-append (header_record session) more, length-header_record session h))
+none_empty (Some session) offset = λ item more place e.
+    absurd (omega (arith, ap length e, length-append (record_of session item) more, record_of-some session item))
 
 -- nothing more was read
-pub ReadsAtMost-nothing : (a b : Option (List ℕ)) (most : ℕ) → IsRead a b [] → ReadsAtMost a b most
-ReadsAtMost-nothing a b most r = record { bytes = []; read = r; within = omega arith }
+pub ReadsWithin-nothing : (session : Option SessionData) (offset : ℕ) (a b : Option (List ℕ)) → IsRead a b [] → ReadsWithin session offset a b []
+ReadsWithin-nothing session offset a b r = record { bytes = []; read = r; within = omega arith; none = none_empty session offset }
 
-pub ReadsAtMost-same : (a : Option (List ℕ)) (most : ℕ) → ReadsAtMost a a most
-ReadsAtMost-same a most = ReadsAtMost-nothing a a most (IsRead-nothing a)
+pub ReadsWithin-same : (session : Option SessionData) (offset : ℕ) (a : Option (List ℕ)) → ReadsWithin session offset a a []
+ReadsWithin-same session offset a = ReadsWithin-nothing session offset a a (IsRead-nothing a)
 
--- a whole record was read
-pub ReadsAtMost-record : (session : SessionData) (offset : ℕ) (item : Item) (a b : Option (List ℕ)) → IsSession session
-    → IsItemAt session offset item → IsRead a b (record_of session item) → ReadsAtMost a b most_of_record
+-- a record is no longer than the longest
+pub record_of-within : (session : SessionData) (offset : ℕ) (item : Item) → IsSession session → IsItemAt session offset item
+    → length (record_of session item) ≤ most_of_record
 unfolding record_of
-ReadsAtMost-record session offset (items.Header at) a b is place r =
-    record { bytes = record_of session (items.Header at); read = r; within = omega (arith, length-header_record session is) }
-ReadsAtMost-record session offset (items.Packet at packet) a b is place r = record {
-  bytes = record_of session (items.Packet at packet);
-  read = r;
-  within = omega (arith, length-packet_record session packet place.1, is.m_high, is.t_high);
-}
+record_of-within session offset (items.Header at) is place = omega (arith, length-header_record session is)
+record_of-within session offset (items.Packet at packet) is place =
+    omega (arith, length-packet_record session packet place.1, is.m_high, is.t_high)
 
 -- an input of which nothing was read
-pub unread : (x y : InputState) → y ≡ x → ReadsAtMost x.left y.left most_of_record
-unread x y same = subst (λ (i : InputState). ReadsAtMost x.left i.left most_of_record) (sym same) (ReadsAtMost-same x.left most_of_record)
+pub unread : (session : Option SessionData) (offset : ℕ) (x y : InputState) → y ≡ x → ReadsWithin session offset x.left y.left []
+unread session offset x y same =
+    subst (λ (i : InputState). ReadsWithin session offset x.left i.left []) (sym same) (ReadsWithin-same session offset x.left)

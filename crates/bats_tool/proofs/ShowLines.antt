@@ -9,8 +9,7 @@ use Rattle.bats_model.specs.Session.{SessionData}
 use Rattle.bats_model.specs.PacketFile.{IsPacketFile, packets_of}
 use Rattle.bats_model.specs.declared.packet.Packet.{Packet}
 use Rattle.bats_model.specs.declared.item.Item.{Item}
-use Rattle.bats_format.specs.Taking.{most_of_record}
-use Rattle.bats_tool.proofs.RecordsRead.{ReadsRecords-begun, ReadsAtMost-same}
+use Rattle.bats_tool.proofs.RecordsRead.{ReadsRecords-begun, ReadsWithin-same}
 use Rattle.bats_tool.specs.declared.command.Command.TheVariants as commands
 use Rattle.bats_tool.specs.declared.stop.Stop.{Stop}
 use Rattle.bats_tool.specs.declared.stop.Stop.TheVariants as stops
@@ -79,7 +78,7 @@ Attempts-line_cut start now session bytes list reader stops.WriteFault file read
       input = bytes ++ rest;
       told = IsTold-after start.input.left now.input.left bytes rest read (IsTold-told_or now.input.left []);
       read = ReadsRecords-begun false (Some session) bytes list reader start.input.left now.input.left now.input.left file tt read
-          (ReadsAtMost-same now.input.left most_of_record);
+          (length bytes) refl (ReadsWithin-same (Some session) (length bytes) now.input.left);
       as_far = record {
         input_fault = no_fault;
         output = record {
@@ -96,7 +95,7 @@ Attempts-line_cut start now session bytes list reader stops.Memory file read no_
       input = bytes ++ rest;
       told = IsTold-after start.input.left now.input.left bytes rest read (IsTold-told_or now.input.left []);
       read = ReadsRecords-begun false (Some session) bytes list reader start.input.left now.input.left now.input.left file tt read
-          (ReadsAtMost-same now.input.left most_of_record);
+          (length bytes) refl (ReadsWithin-same (Some session) (length bytes) now.input.left);
       as_far = record {
         input_fault = no_fault;
         output = record {

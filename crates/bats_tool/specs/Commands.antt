@@ -1,9 +1,9 @@
 -- What each command promises of its input: how it ends, and what it may have written where it is cut short.
-use Rattle.std.specs.Prelude.{ℕ, ◌≡◌, ◌≤◌, ◌⊎◌, Bool, true, false, List, [], ◌++◌, length, Option, None, Some}
+use Rattle.std.specs.Prelude.{ℕ, ◌≡◌, ◌≤◌, ◌⊎◌, Bool, true, false, List, [], ◌∷◌, ◌++◌, length, Option, None, Some}
 use Rattle.bats_io.specs.Streams.{IsRead, ReadsAtMost}
-use Rattle.bats_format.specs.Taking.{most_of_record}
+use Rattle.bats_format.specs.Taking.{most_of_record, HasNoRecord}
 use Rattle.bats_model.specs.Session.{SessionData}
-use Rattle.bats_model.specs.PacketFile.{IsPacketFile}
+use Rattle.bats_model.specs.PacketFile.{IsPacketFile, IsItemAt, record_of}
 use Rattle.bats_model.specs.Refusal.{HasFront}
 use Rattle.bats_model.specs.declared.item.Item.{Item}
 use Rattle.bats_tool.specs.declared.command.Command.{Command}
@@ -58,7 +58,15 @@ abbrev pub ReadsOn : Bool → Option SessionData → List Item → Type 0
 ReadsOn true session list = ArePlain session list
 ReadsOn false session list = Unit {0}
 
--- whole records were read, after each of which the command reads on, and then no more bytes than a record has
+-- bytes after these items are no whole record after which the command reads on: no record stands at their front, or they
+-- are exactly the record at which the command stops
+abbrev pub StopsWithin : Bool → Option SessionData → List Item → List ℕ → List ℕ → Type 0
+StopsWithin only_plain None list front begun = HasNoRecord None 0 begun
+StopsWithin only_plain (Some session) list front begun =
+    (item : Item) (more : List ℕ) → IsItemAt session (length front) item → begun ≡ record_of session item ++ more
+    → (more ≡ []) × ¬ ReadsOn only_plain (Some session) (list ++ item ∷ [])
+
+-- all whole records were read after which the command reads on, and then no more than one record or a part of one
 pub record ReadsRecords (only_plain : Bool) (before after : Option (List ℕ)) : Type 0 where
   pub session : Option SessionData
   pub list : List Item
@@ -68,6 +76,7 @@ pub record ReadsRecords (only_plain : Bool) (before after : Option (List ℕ)) :
   pub reads_on : ReadsOn only_plain session list
   pub read : IsRead before after (front ++ begun)
   pub within : length begun ≤ most_of_record
+  pub stops : StopsWithin only_plain session list front begun
 
 -- the bytes are the lines of the records that were read
 pub record AreLinesRead (before after : Option (List ℕ)) (part : List ℕ) : Type 0 where

@@ -95,7 +95,7 @@ pub record IsNotPlain (session : SessionData) (item : Item) : Type 0 where
 
 abbrev pub TakesItem : SessionData → Item → DecoderData → DecoderData → Result (Unit {0}) Halt → Type 0
 TakesItem session item decoder decoder' (Ok _) = TakesIn session item decoder decoder'
-TakesItem session item decoder decoder' (Err (halts.Input ends.Memory)) = Unit {0}
+TakesItem session item decoder decoder' (Err (halts.Input ends.Memory)) = All (IsPlain session) (packets_of (item ∷ []))
 TakesItem session item decoder decoder' (Err (halts.Input end)) = ⊥
 TakesItem session item decoder decoder' (Err halts.NotPlain) = IsNotPlain session item
 

@@ -220,7 +220,11 @@ fn refuses_other_headers(rt: HostRuntime) -> Result<(), Fail> {
         input[place] = byte;
         assert_refused(&rt, &input, notes)?;
     }
-    Ok(())
+    // A header alone.
+    let mut header = [0; 32];
+    header.copy_from_slice(&SMALL_OUTPUT[..32]);
+    header[4] = 33;
+    assert_refused(&rt, &header, "bats: input at=0 bad-header field=m\n")
 }
 
 #[test]

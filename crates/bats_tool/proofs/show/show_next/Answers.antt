@@ -3,8 +3,7 @@ use Rattle.bats_format.specs.Reader.{GivesItem, GivesEnd}
 use Rattle.bats_tool.specs.declared.stop.Stop.TheVariants as stops
 use Rattle.bats_tool.specs.Streams.{Ends}
 use Rattle.bats_tool.proofs.ShowSteps.{HasShown-more, Attempts-item_cut, Attempts-memory, Attempts-refused, Reaches-end, Reaches-refused, StepsTo-exit}
-use Rattle.bats_format.specs.Taking.{most_of_record}
-use Rattle.bats_tool.proofs.RecordsRead.{ReadsAtMost-nothing}
+use Rattle.bats_tool.proofs.RecordsRead.{ReadsWithin-nothing}
 use Rattle.bats_tool.proofs.ReaderAnswers.{item_of, end_of}
 use Rattle.bats_tool.proofs.show.show_next.Goals as goal
 
@@ -55,7 +54,7 @@ returns-in_err-done-in-Ok-None-clause-shown g c start shown =
     end_of {y = before.input} {z = after.input} c.in-Ok-None.field-0-is c.in-Ok-None.ensures in
     StepsTo-exit start after c.next.new.self c.args.counts.now.headers c.args.counts.now.packets stops.Memory _ c.from_residual-in_err-done-in-Ok-None.ensures.1
     (Attempts-memory start before after c.args.reader.now c.args.counts.now.headers c.args.counts.now.packets shown
-    (ReadsAtMost-nothing before.input.left after.input.left most_of_record given.nothing_read) given.no_fault refl)
+    (ReadsWithin-nothing c.args.reader.now.session c.args.reader.now.offset before.input.left after.input.left given.nothing_read) given.no_fault refl)
 
 pub returns-in_ok-done-in-Ok-None-clause-shown : goal.returns-in_ok-done-in-Ok-None-clause-shown
 returns-in_ok-done-in-Ok-None-clause-shown g c start shown =
