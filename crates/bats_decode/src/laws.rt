@@ -5,8 +5,8 @@ ghost use Rattle.bats_model.specs.Plain.{IsPlain};
 ghost use Rattle.bats_model.specs.Kept.{is_repeat, vectors_of, IsCombination};
 ghost use Rattle.bats_model.specs.declared.packet.Packet.{Packet};
 
-/// Among plain packets a packet is a repeat exactly where its coefficient vector is a combination of those of the
-/// earlier packets of its batch.
+/// Among plain packets of M coefficients each, a packet is a repeat exactly where its coefficient vector is a
+/// combination of those of the earlier packets of its batch.
 pub fn repeats_are_combinations()
     ensures { (session : SessionData) (packets : List Packet) (packet : Packet)
         → All (IsPlain session) packets → All (λ earlier. length earlier.coefs ≡ session.m) packets

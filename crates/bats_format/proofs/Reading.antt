@@ -23,7 +23,7 @@ use Rattle.bats_model.specs.declared.read_end.HeaderField.{HeaderField}
 use Rattle.bats_model.specs.declared.read_end.ReadEnd.{ReadEnd}
 use Rattle.bats_model.specs.declared.read_end.ReadEnd.TheVariants as ends
 use Rattle.bats_format.specs.Filling.{IsFilled, FailsWithin, IsPart, PartIsFilled, FillsPart}
-use Rattle.bats_format.specs.Taking.{HasNoRecord, FirstIs, StopsFirst, FirstStops, TakesFirst, ReadsWithin, FailsAt, most_of_record, IsStop, StopsAt, StopCause, Stops, TakesByte, TakesItem, TakesBody, RecordStops}
+use Rattle.bats_format.specs.Taking.{HasNoRecord, room_of, FirstIs, StopsFirst, FirstStops, TakesFirst, ReadsWithin, FailsAt, IsStop, StopsAt, StopCause, Stops, TakesByte, TakesItem, TakesBody, RecordStops}
 use Rattle.bats_format.proofs.RecordLemmas.{same_parts, length-header_record, header_rest, header_record-begins, length-packet_record, packet_rest, packet_record-begins}
 use Rattle.bats_format.proofs.PacketFiles.{IsPacketFile-header}
 use Rattle.bats_format.proofs.Refusals.{front_begins}
@@ -153,6 +153,24 @@ no_short session (items.Header at) bytes more h e =
 no_short session (items.Packet at packet) bytes more h e =
     absurd (omega (arith, ap length e, length-append (packet_record packet.batch packet.coefs packet.payload) more))
 
+-- ---- how far a record goes
+
+room_of-some : (session : SessionData) (tag : ℕ) (bytes : List ℕ) → 1 ≤ room_of (Some session) (tag ∷ bytes)
+room_of-some session tag bytes = grind (arith, nat_tests)
+
+-- one byte at most
+within-one : (session : SessionData) (bytes : List ℕ) → length bytes < 2 → length bytes ≤ room_of (Some session) bytes
+within-one session [] h = omega arith
+within-one session (tag ∷ bytes) h = omega (arith, room_of-some session tag bytes)
+
+within-header : (session : SessionData) (bytes : List ℕ) → length bytes < 32
+    → length (header_tag ∷ bytes) ≤ room_of (Some session) (header_tag ∷ bytes)
+within-header session bytes h = let r : suc (length bytes) ≤ 32 = omega arith in r
+
+within-packet : (session : SessionData) (bytes : List ℕ) → length bytes < 5 + session.m + session.t
+    → length (packet_tag ∷ bytes) ≤ room_of (Some session) (packet_tag ∷ bytes)
+within-packet session bytes h = let r : suc (length bytes) ≤ 5 + session.m + session.t = omega arith in r
+
 -- ---- stops
 
 pub IsStop-full : (session : SessionData) (offset tag : ℕ) (bytes : List ℕ) → IsStop session most_records offset (tag ∷ bytes) ends.TooManyRecords
@@ -266,7 +284,7 @@ Stops-untagged {before} {after} {records} {offset} size one f session = record {
     read = record {
       bytes = f.read.bytes;
       read = f.read.read;
-      within = omega (arith, f.read.within);
+      within = within-one session f.read.bytes (omega (arith, f.read.within));
       none = λ item more place e. no_short session item f.read.bytes more (omega (arith, f.read.within)) e;
     };
   };
@@ -284,7 +302,7 @@ Stops-tag {before} {after} {records} {offset} {end} buffer count size some f sto
       read = record {
         bytes = get_or buffer 0 0 ∷ [];
         read = read_byte before after buffer count size some f;
-        within = omega arith;
+        within = within-one session (get_or buffer 0 0 ∷ []) (omega arith);
         none = λ item more place e. no_short session item (get_or buffer 0 0 ∷ []) more (omega arith) e;
       };
       no_fault = f.no_fault;
@@ -486,27 +504,27 @@ IsStop-header_cut session records offset bytes size more short = record {
 
 -- a cut body, of so many bytes
 cut_stops : (before after : InputState) (session : SessionData) (records offset byte : ℕ) (part : List ℕ) (end : ReadEnd)
-    → length part < most_of_record
+    → ((bytes : List ℕ) → length bytes < length part → length (byte ∷ bytes) ≤ room_of (Some session) (byte ∷ bytes))
     → ((bytes : List ℕ) → length bytes < length part → HasNoRecord (Some session) offset (byte ∷ bytes))
     → ((bytes : List ℕ) → length bytes < length part → IsStop session records offset (byte ∷ bytes) (ends.Truncated offset))
     → PartIsFilled before after offset part (Err end) → Stops before after session records offset (byte ∷ []) end
-cut_stops before after session records offset byte part ends.Memory small none stop p = absurd p
-cut_stops before after session records offset byte part ends.ReadFault small none stop p = record {
+cut_stops before after session records offset byte part ends.Memory room none stop p = absurd p
+cut_stops before after session records offset byte part ends.ReadFault room none stop p = record {
   cause = record {
     fault = p.fault;
     read = record {
       bytes = p.read.bytes;
       read = p.read.read;
-      within = omega (arith, p.read.within);
+      within = room p.read.bytes p.read.within;
       none = none p.read.bytes p.read.within;
     };
   };
 }
-cut_stops before after session records offset byte part ends.NoHeader small none stop p = absurd p
-cut_stops before after session records offset byte part (ends.BadHeader field) small none stop p = absurd p
-cut_stops before after session records offset byte part (ends.BadTag at other) small none stop p = absurd p
-cut_stops before after session records offset byte part (ends.OtherSession at) small none stop p = absurd p
-cut_stops before after session records offset byte part (ends.Truncated at) small none stop p = record {
+cut_stops before after session records offset byte part ends.NoHeader room none stop p = absurd p
+cut_stops before after session records offset byte part (ends.BadHeader field) room none stop p = absurd p
+cut_stops before after session records offset byte part (ends.BadTag at other) room none stop p = absurd p
+cut_stops before after session records offset byte part (ends.OtherSession at) room none stop p = absurd p
+cut_stops before after session records offset byte part (ends.Truncated at) room none stop p = record {
   cause = record {
     left = p.1.left;
     told = p.1.told;
@@ -514,13 +532,13 @@ cut_stops before after session records offset byte part (ends.Truncated at) smal
     read = record {
       bytes = p.1.read.bytes;
       read = p.1.read.read;
-      within = omega (arith, p.1.read.within);
+      within = room p.1.read.bytes p.1.read.within;
       none = none p.1.read.bytes p.1.read.within;
     };
     no_fault = p.1.no_fault;
   };
 }
-cut_stops before after session records offset byte part ends.TooManyRecords small none stop p = absurd p
+cut_stops before after session records offset byte part ends.TooManyRecords room none stop p = absurd p
 
 body_exit : (before after : InputState) (session : SessionData) (offset byte : ℕ) (end : ReadEnd) (result : Result Item ReadEnd) → IsErrAnd result (λ y. y ≡ end)
     → ((records : ℕ) → records ≢ most_records → Stops before after session records offset (byte ∷ []) end)
@@ -536,7 +554,8 @@ pub TakesBody-header_exit : {before after : InputState} {offset : ℕ} {part : L
     → FillsPart before after offset part (Err end) → TakesBody before after session offset header_tag result
 TakesBody-header_exit {before} {after} {offset} {part} {end} session result size length_is h p =
     body_exit before after session offset header_tag end result h
-    (λ records more. cut_stops before after session records offset header_tag part end (omega arith)
+    (λ records more. cut_stops before after session records offset header_tag part end
+    (λ bytes short. within-header session bytes (omega arith))
     (λ bytes short item rest place e. no_header_cut session offset item bytes rest size (omega arith) e)
     (λ bytes short. IsStop-header_cut session records offset bytes size more (omega arith)) p.as_far)
 
@@ -558,7 +577,7 @@ Stops-other {before} {after} {session} {offset} part size length_is differs p re
         read = record {
           bytes = part;
           read = filled.read;
-          within = omega arith;
+          within = within-header session part (omega arith);
           none = λ item rest place e.
               no_other_header session item part [] rest size length_is differs (ap (λ (bytes : List ℕ). header_tag ∷ bytes) (append-nil part) ∙ e);
         };
@@ -621,7 +640,7 @@ pub TakesBody-packet_exit : {before after : InputState} {offset : ℕ} {end : Re
 TakesBody-packet_exit {before} {after} {offset} {end} session number coefs payload result is_session a b c h p =
     body_exit before after session offset packet_tag end result h
     (λ records more. cut_stops before after session records offset packet_tag (number ++ coefs ++ payload) end
-    (omega (arith, length-append (number ++ coefs) payload, length-append number coefs, is_session.m_high, is_session.t_high))
+    (λ bytes short. within-packet session bytes (omega (arith, length-append (number ++ coefs) payload, length-append number coefs)))
     (λ bytes short item rest place e. no_packet_cut session offset item bytes rest
     (omega (arith, length-append (number ++ coefs) payload, length-append number coefs)) place e)
     (λ bytes short. IsStop-packet_cut session records offset bytes more

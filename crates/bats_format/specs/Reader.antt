@@ -79,7 +79,7 @@ abbrev pub RefusesAfter : Option SessionData → List Item → List ℕ → Read
 RefusesAfter None list input end = RefusesHeader input end
 RefusesAfter (Some session) list input end = RefusesRecord input session list end
 
--- the input, which is what was read and what was left, is refused so; no whole record was read
+-- the input, which is what was read and what was left, is refused so; it was read no further than one record goes
 pub record RefusesInput (before after : InputState) (reader reader' : ReaderData) (end : ReadEnd) : Type 0 where
   pub was_open : IsOpen reader
   pub refused : reader' ≡ record reader { refused = Some end }
@@ -90,7 +90,7 @@ pub record RefusesInput (before after : InputState) (reader reader' : ReaderData
   pub read : ReadsWithin reader.session reader.offset before.left after.left []
   pub no_fault : after.faults ≡ before.faults
 
--- a read failed; no whole record was read
+-- a read failed, before a whole record was read
 pub record CannotRead (before after : InputState) (reader reader' : ReaderData) : Type 0 where
   pub was_open : IsOpen reader
   pub refused : reader' ≡ record reader { refused = Some ends.ReadFault }

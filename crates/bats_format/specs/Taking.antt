@@ -1,5 +1,5 @@
 -- What the reading of one record leaves of a source, and what its answer is.
-use Rattle.std.specs.Prelude.{ℕ, ◌≡◌, ◌≢◌, ◌<◌, ◌≤◌, List, [], ◌∷◌, ◌++◌, length, take, Option, Some, None, Result, Ok, Err}
+use Rattle.std.specs.Prelude.{ℕ, ◌≡◌, ◌≢◌, ◌<◌, ◌≤◌, ◌+◌, ◌==◌, if◌then◌else◌, List, [], ◌∷◌, ◌++◌, length, take, Option, Some, None, Result, Ok, Err}
 use Rattle.bats_io.specs.Faults.{Rose}
 use Rattle.bats_io.specs.Streams.{InputState, IsTold, IsRead, IsEnded}
 use Rattle.bats_model.specs.Session.{SessionData, IsSession}
@@ -23,11 +23,19 @@ HasNoRecord None offset bytes = (session : SessionData) (more : List ℕ) → Is
 HasNoRecord (Some session) offset bytes =
     (item : Item) (more : List ℕ) → IsItemAt session offset item → bytes ≡ record_of session item ++ more → ⊥
 
--- bytes were read: behind those before, they make no whole record, and no more bytes than the longest has
+-- how many bytes a record has at most that begins so: those of a header, where no session is known yet; and where no
+-- record begins so, the first byte alone
+abbrev pub room_of : Option SessionData → List ℕ → ℕ
+room_of None bytes = header_size
+room_of (Some session) [] = 0
+room_of (Some session) (tag ∷ bytes) =
+    if tag == header_tag then header_size else if tag == packet_tag then 5 + session.m + session.t else 1
+
+-- bytes were read: with those before, no whole record stands at their front, and they go no further than one
 pub record ReadsWithin (session : Option SessionData) (offset : ℕ) (before after : Option (List ℕ)) (begun : List ℕ) : Type 0 where
   pub bytes : List ℕ
   pub read : IsRead before after bytes
-  pub within : length (begun ++ bytes) ≤ most_of_record
+  pub within : length (begun ++ bytes) ≤ room_of session (begun ++ bytes)
   pub none : HasNoRecord session offset (begun ++ bytes)
 
 -- a read failed

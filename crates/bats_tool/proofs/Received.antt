@@ -1,5 +1,5 @@
 -- One item after another is received.
-use Rattle.std.proofs.Common.{ℕ, ◌≡◌, Bool, true, List, [], ◌∷◌, ◌++◌, length, Option, None, Some, Result, Ok, Err, refl, sym, ap, ◌∙◌, subst, inl, inr, append-nil}
+use Rattle.std.proofs.Common.{ℕ, ◌≡◌, Bool, true, List, [], ◌∷◌, ◌++◌, length, ◌≤◌, Option, None, Some, Result, Ok, Err, refl, sym, ap, ◌∙◌, subst, inl, inr, append-nil}
 use Rattle.std.specs.Prelude.{IsSome}
 use Rattle.std.specs.List.{All}
 use Rattle.std.specs.Result.{IsErrAnd}
@@ -22,7 +22,7 @@ use Rattle.bats_format.proofs.JoinedFiles.{packets_of-append}
 use Rattle.bats_format.proofs.RecordLemmas.{same_items}
 use Rattle.bats_decode.specs.Decoder as decoder_specs
 use Rattle.bats_decode.specs.Decoder.{DecoderData}
-use Rattle.bats_format.specs.Taking.{ReadsWithin}
+use Rattle.bats_format.specs.Taking.{ReadsWithin, room_of}
 use Rattle.bats_tool.specs.Commands.{ReadsRecords}
 use Rattle.bats_tool.proofs.RecordsRead.{ReadsRecords-begun, record_of-within, ReadsWithin-nothing, ReadsWithin-same, unread}
 use Rattle.bats_tool.proofs.ReaderAnswers.{not_again, file_of, still_ended}
@@ -148,7 +148,8 @@ reads_not_plain start x y r r' d item h g n =
       records = file_of r.session d.session h.bytes h.list r h.reader_stands.read h.session;
       reads_on = h.plain;
       read = IsRead-after start.left x.left y.left h.bytes (record_of g.session item) h.read g.taken;
-      within = record_of-within g.session r.offset item file.is_session g.place;
+      within = subst (λ (s : SessionData). length (record_of g.session item) ≤ room_of (Some s) (record_of g.session item)) same
+          (record_of-within g.session r.offset item file.is_session g.place);
       stops = λ other more at e.
           let first : record_of d.session item ++ [] ≡ record_of d.session other ++ more =
           append-nil (record_of d.session item) ∙ ap (λ (s : SessionData). record_of s item) (sym same) ∙ e in

@@ -1,14 +1,14 @@
 -- How far a packet file was read.
-use Rattle.std.proofs.Common.{ℕ, Bool, List, [], ◌≡◌, ◌≤◌, length, Option, None, Some, arith, sym, ap, subst, length-append}
+use Rattle.std.proofs.Common.{ℕ, ◌+◌, Bool, List, [], ◌≡◌, ◌≤◌, length, Option, None, Some, arith, sym, ap, subst, length-append}
 use Rattle.bats_io.specs.Streams.{InputState, IsRead}
 use Rattle.bats_io.proofs.ReadLemmas.{IsRead-nothing, IsRead-after}
 use Rattle.bats_model.specs.Session.{SessionData, IsSession}
-use Rattle.bats_model.specs.Records.{header_record}
+use Rattle.bats_model.specs.Records.{header_record, packet_record}
 use Rattle.bats_model.specs.PacketFile.{IsItemAt, record_of}
 use Rattle.bats_model.specs.declared.item.Item.{Item}
 use Rattle.bats_model.specs.declared.item.Item.TheVariants as items
 use Rattle.bats_format.specs.Reader.{ReaderData, HasReadAs}
-use Rattle.bats_format.specs.Taking.{most_of_record, HasNoRecord, ReadsWithin}
+use Rattle.bats_format.specs.Taking.{HasNoRecord, room_of, ReadsWithin}
 use Rattle.bats_format.proofs.RecordLemmas.{length-header_record, length-packet_record, record_of-some}
 use Rattle.bats_tool.specs.Commands.{AreRecords, ReadsOn, StopsWithin, ReadsRecords}
 
@@ -54,13 +54,15 @@ ReadsWithin-nothing session offset a b r = record { bytes = []; read = r; within
 pub ReadsWithin-same : (session : Option SessionData) (offset : ℕ) (a : Option (List ℕ)) → ReadsWithin session offset a a []
 ReadsWithin-same session offset a = ReadsWithin-nothing session offset a a (IsRead-nothing a)
 
--- a record is no longer than the longest
+-- a record goes no further than one
 pub record_of-within : (session : SessionData) (offset : ℕ) (item : Item) → IsSession session → IsItemAt session offset item
-    → length (record_of session item) ≤ most_of_record
-unfolding record_of
-record_of-within session offset (items.Header at) is place = omega (arith, length-header_record session is)
+    → length (record_of session item) ≤ room_of (Some session) (record_of session item)
+unfolding record_of header_record packet_record
+record_of-within session offset (items.Header at) is place =
+    let r : length (header_record session) ≤ 32 = omega (arith, length-header_record session is) in r
 record_of-within session offset (items.Packet at packet) is place =
-    omega (arith, length-packet_record session packet place.1, is.m_high, is.t_high)
+    let r : length (packet_record packet.batch packet.coefs packet.payload) ≤ 5 + session.m + session.t =
+    omega (arith, length-packet_record session packet place.1) in r
 
 -- an input of which nothing was read
 pub unread : (session : Option SessionData) (offset : ℕ) (x y : InputState) → y ≡ x → ReadsWithin session offset x.left y.left []

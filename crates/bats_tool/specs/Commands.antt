@@ -1,7 +1,7 @@
 -- What each command promises of its input: how it ends, and what it may have written where it is cut short.
 use Rattle.std.specs.Prelude.{ℕ, ◌≡◌, ◌≤◌, ◌⊎◌, Bool, true, false, List, [], ◌∷◌, ◌++◌, length, Option, None, Some}
 use Rattle.bats_io.specs.Streams.{IsRead, ReadsAtMost}
-use Rattle.bats_format.specs.Taking.{most_of_record, HasNoRecord}
+use Rattle.bats_format.specs.Taking.{HasNoRecord, room_of}
 use Rattle.bats_model.specs.Session.{SessionData}
 use Rattle.bats_model.specs.PacketFile.{IsPacketFile, IsItemAt, record_of}
 use Rattle.bats_model.specs.Refusal.{HasFront}
@@ -66,7 +66,8 @@ StopsWithin only_plain (Some session) list front begun =
     (item : Item) (more : List ℕ) → IsItemAt session (length front) item → begun ≡ record_of session item ++ more
     → (more ≡ []) × ¬ ReadsOn only_plain (Some session) (list ++ item ∷ [])
 
--- all whole records were read after which the command reads on, and then no more than one record or a part of one
+-- all whole records were read after which the command reads on, and then no further than one more goes: a part of it, or
+-- in `sink` the one at which it stops, or a byte that begins none
 pub record ReadsRecords (only_plain : Bool) (before after : Option (List ℕ)) : Type 0 where
   pub session : Option SessionData
   pub list : List Item
@@ -75,7 +76,7 @@ pub record ReadsRecords (only_plain : Bool) (before after : Option (List ℕ)) :
   pub records : AreRecords session list front
   pub reads_on : ReadsOn only_plain session list
   pub read : IsRead before after (front ++ begun)
-  pub within : length begun ≤ most_of_record
+  pub within : length begun ≤ room_of session begun
   pub stops : StopsWithin only_plain session list front begun
 
 -- the bytes are the lines of the records that were read

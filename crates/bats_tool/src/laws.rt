@@ -27,8 +27,8 @@ pub fn one_ending()
         × ((ending.output ≡ other.output) ⊎ (ending.status ≡ statuses.NeedMore)) }
 {}
 
-/// What `source` writes of a file that is not too long is a packet file of the file's session, with m packets a batch, and
-/// the file agrees with all of them.
+/// What `source` writes of a file that is not too long is a packet file of the file's session, with batches times m
+/// packets, and the file agrees with all of them.
 pub fn source_sends_a_packet_file()
     ensures { (options : SourceOptions) (file : List ℕ) → HasRanges options → length options.seed ≡ 16 → AreBytes file
         → symbols_of (session_for options (length file)) ≤ 4096
@@ -39,9 +39,10 @@ pub fn source_sends_a_packet_file()
         × AgreesWithAll (session_for options (length file)) (packets_of list) file)) }
 {}
 
-/// On a packet file of plain packets with which a file agrees, `sink` ends as done with that file, where no other agrees,
-/// and else with need-more; if a packet isn't plain, as not built. It says neither that no file agrees nor that the input is
-/// at fault. On any input, where the two files of need-more aren't asked for, an ending other than done writes nothing.
+/// On a packet file of plain packets with which a file agrees, `sink` ends as done with that file, where no other
+/// agrees, and else with need-more; if a packet isn't plain, as not built. It says neither that no file agrees nor that
+/// the input is at fault. On any input, where the two files of need-more aren't asked for, an ending other than done
+/// writes nothing.
 pub fn sink_gives_the_file_that_agrees()
     ensures file { (session : SessionData) (list : List Item) (input file : List ℕ) (workers : ℕ) (both : Bool) (ending : Ending)
         → IsPacketFile session list input → AgreesWithAll session (packets_of list) file
@@ -55,8 +56,8 @@ pub fn sink_gives_the_file_that_agrees()
         → (ending.status ≡ statuses.Done) ⊎ (ending.output ≡ []) }
 {}
 
-/// On any choice of the packets that `source` sends, in any order and with repeats, `sink` ends as done only with the file
-/// that was sent, where no other agrees; else with need-more, and as not built where a packet isn't plain.
+/// On any choice of the packets that `source` sends, in any order and with repeats, `sink` ends as done only with the
+/// file that was sent, where no other agrees; else with need-more, and as not built where a packet isn't plain.
 pub fn sink_gives_what_source_sends()
     ensures { (options : SourceOptions) (file : List ℕ) (sent list : List Item) (input : List ℕ)
         (workers : ℕ) (both : Bool) (ending : Ending) → HasRanges options → AreBytes file
@@ -71,8 +72,8 @@ pub fn sink_gives_what_source_sends()
         ⊎ ((ending.status ≡ statuses.NotBuilt) × ¬ All (IsPlain session) (packets_of list)) }
 {}
 
-/// Where `source` sends each symbol once, in systematic batches, `sink` ends as done with the file on all these packets,
-/// in any order and with repeats.
+/// Where `source` sends each symbol once, in systematic batches, `sink` ends as done with the file on all these
+/// packets, in any order and with repeats.
 pub fn sink_gives_a_file_sent_whole()
     ensures { (options : SourceOptions) (file : List ℕ) (sent list : List Item) (input : List ℕ)
         (workers : ℕ) (both : Bool) (ending : Ending) → HasRanges options → AreBytes file
@@ -85,8 +86,8 @@ pub fn sink_gives_a_file_sent_whole()
         → (ending.status ≡ statuses.Done) × (ending.output ≡ file) }
 {}
 
-/// Words that are a command `source` and send a file, and then words that are a command `sink`, on what was sent: a run
-/// ends as done only with that file, and does so where each symbol was sent once, in systematic batches.
+/// Words that are a command `source` and send a file, and then words that are a command `sink`, on what was sent: the
+/// second ends as done only with that file, and does so where each symbol was sent once, in systematic batches.
 pub fn sink_after_source()
     ensures no_other { (words others : List (List ℕ)) (m t table : ℕ) (systematic : Bool) (seed : List ℕ)
         (first batches workers : ℕ) (both : Bool) (file : List ℕ) (sent ending : Ending)
