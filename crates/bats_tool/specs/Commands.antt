@@ -66,8 +66,9 @@ StopsWithin only_plain (Some session) list front begun =
     (item : Item) (more : List ℕ) → IsItemAt session (length front) item → begun ≡ record_of session item ++ more
     → (more ≡ []) × ¬ ReadsOn only_plain (Some session) (list ++ item ∷ [])
 
--- all whole records were read after which the command reads on, and then no further than one more goes: a part of it, or
--- in `sink` the one at which it stops, or a byte that begins none
+-- all whole records were read after which the command reads on, and then no further than one more goes: a part of it, a
+-- header that isn't the session's, a byte that begins none, in `sink` the one at which it stops, or up to 32 bytes
+-- where no first header was read
 pub record ReadsRecords (only_plain : Bool) (before after : Option (List ℕ)) : Type 0 where
   pub session : Option SessionData
   pub list : List Item
