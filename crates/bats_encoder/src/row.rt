@@ -1,5 +1,5 @@
 ghost use Rattle.std.specs.Prelude.{◌≡◌, ◌≤◌, length};
-ghost use Rattle.gf_rows.specs.Rows.{add_scaled_row};
+ghost use Rattle.gf_core.specs.Rows.{add_scaled_row};
 
 use gf_core::Gf;
 use gf_rows::add_scaled;

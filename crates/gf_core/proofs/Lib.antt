@@ -4,4 +4,5 @@ pub mod SumLemmas
 pub mod ProductLemmas
 pub mod PowerLemmas
 pub mod InverseLemmas
+pub mod RowLemmas
 mod Examples

@@ -1,2 +1,4 @@
 pub mod Field
 pub mod Bytes
+pub mod Rows
+pub mod Combinations

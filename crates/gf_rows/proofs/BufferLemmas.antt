@@ -9,9 +9,10 @@ use Rattle.std.proofs.lemmas.List.FromFn.{length-map-range_with_len, get_or-map-
 use Rattle.std.specs.Prelude.{Vec}
 use Rattle.std.specs.Vec.{with_items}
 use borrow.Rule.Slice.PartMut.{put_mid}
-use Rattle.gf_rows.specs.Rows.{AreBytes, scaled_row, add_scaled_row}
+use Rattle.gf_core.specs.Bytes.{AreBytes}
+use Rattle.gf_core.specs.Rows.{scaled_row, add_scaled_row}
 use Rattle.gf_rows.specs.Matrix.{rows_of, with_part}
-use Rattle.gf_rows.proofs.RowLemmas.{length-scaled_row, length-add_scaled_row, add_scaled_row-lt}
+use Rattle.gf_core.proofs.RowLemmas.{length-scaled_row, length-add_scaled_row, add_scaled_row-lt}
 
 pub length-rows_of : (count width : ℕ) (bytes : List ℕ) → length (rows_of count width bytes) ≡ count
 unfolding rows_of

@@ -2,7 +2,7 @@
 use Rattle.std.proofs.Common.{◌≡◌, [], ◌∷◌, refl}
 use Rattle.gf_core.specs.Field.{gf_mul, gf_sum, product_term, double, doubled}
 use Rattle.gf_rows.specs.declared.operation.Op.TheVariants.{AddScaled, Scale}
-use Rattle.gf_rows.specs.Rows.{row_sum, scaled_row, add_scaled_row}
+use Rattle.gf_core.specs.Rows.{row_sum, scaled_row, add_scaled_row}
 use Rattle.gf_rows.specs.Plan.{plan_on_column}
 use Rattle.gf_rows.specs.Matrix.{rows_of, with_part}
 

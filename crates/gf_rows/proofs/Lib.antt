@@ -1,4 +1,3 @@
-pub mod RowLemmas
 pub mod HalfLemmas
 pub mod PlanLemmas
 pub mod BufferLemmas

@@ -9,10 +9,11 @@ use Rattle.gf_core.proofs.SumLemmas.{gf_sum-congruence, gf_sum-gf_add}
 use Rattle.gf_core.proofs.ProductLemmas.{gf_mul-gf_add_left, gf_mul-gf_sum, gf_mul_assoc}
 use Rattle.gf_rows.specs.declared.operation.Op.{Op}
 use Rattle.gf_rows.specs.declared.operation.Op.TheVariants.{AddScaled, Scale}
-use Rattle.gf_rows.specs.Rows.{AreBytes, scaled_row, add_scaled_row}
+use Rattle.gf_core.specs.Bytes.{AreBytes}
+use Rattle.gf_core.specs.Rows.{scaled_row, add_scaled_row}
 use Rattle.gf_rows.specs.Operation.{FitsRows, op_on_column, op_on_rows}
 use Rattle.gf_rows.specs.Plan.{plan_on_column, plan_on_rows}
-use Rattle.gf_rows.proofs.RowLemmas.{byte_at, get_or-add_scaled_row, get_or-scaled_row, add_scaled_row-lt, scaled_row-lt}
+use Rattle.gf_core.proofs.RowLemmas.{byte_at, get_or-add_scaled_row, get_or-scaled_row, add_scaled_row-lt, scaled_row-lt}
 use Rattle.gf_rows.proofs.PlanLemmas.{length-op_on_rows, op_on_rows-widths}
 
 -- the function of rows of this width keeps sums and multiples

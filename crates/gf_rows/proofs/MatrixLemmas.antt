@@ -2,11 +2,12 @@
 use Rattle.std.proofs.Common.{ℕ, ◌≡◌, ◌≢◌, ◌<◌, ◌≤◌, ◌+◌, ◌*◌, ◌∙◌, List, [], length, get_or, set, take, drop, sym, ap, refl, arith, length-set}
 use Rattle.std.proofs.lemmas.List.{get_or-set_same, get_or-set_other}
 use Rattle.std.proofs.lemmas.List.Elements.{All-set}
-use Rattle.gf_rows.specs.Rows.{AreBytes, scaled_row, add_scaled_row}
+use Rattle.gf_core.specs.Bytes.{AreBytes}
+use Rattle.gf_core.specs.Rows.{scaled_row, add_scaled_row}
 use Rattle.gf_rows.specs.declared.operation.Op.TheVariants.{AddScaled, Scale}
 use Rattle.gf_rows.specs.Operation.{op_on_rows}
 use Rattle.gf_rows.specs.Matrix.{Grid, IsMatrix, matrix_row, matrix_entry, with_matrix_row, rows_of, with_part}
-use Rattle.gf_rows.proofs.RowLemmas.{length-scaled_row, length-add_scaled_row, scaled_row-lt, add_scaled_row-lt}
+use Rattle.gf_core.proofs.RowLemmas.{length-scaled_row, length-add_scaled_row, scaled_row-lt, add_scaled_row-lt}
 use Rattle.gf_rows.proofs.BufferLemmas.{length-part, length-rows_of, get_or-rows_of, get_or-get_or-rows_of, row_within, widths_of_rows, bytes_of_rows, rows_of-with_part, set_as_part}
 
 -- ---- for callers: the rows after a change to one of them

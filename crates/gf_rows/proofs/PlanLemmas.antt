@@ -10,10 +10,11 @@ use Rattle.gf_core.proofs.AddLemmas.{gf_add-lt, gf_add-zero, gf_add_add_comm}
 use Rattle.gf_core.proofs.ProductLemmas.{gf_mul-lt, gf_mul-zero, gf_mul-gf_add, gf_mul_left_comm}
 use Rattle.gf_rows.specs.declared.operation.Op.{Op}
 use Rattle.gf_rows.specs.declared.operation.Op.TheVariants.{AddScaled, Scale}
-use Rattle.gf_rows.specs.Rows.{AreBytes, row_sum, scaled_row, add_scaled_row, column_of}
+use Rattle.gf_core.specs.Bytes.{AreBytes}
+use Rattle.gf_core.specs.Rows.{row_sum, scaled_row, add_scaled_row, column_of}
 use Rattle.gf_rows.specs.Operation.{HasByteFactor, FitsRows, op_on_column, op_on_rows}
 use Rattle.gf_rows.specs.Plan.{plan_on_column, plan_on_rows}
-use Rattle.gf_rows.proofs.RowLemmas.{byte_at, row_sum-set, get_or-row_sum_even, scaled_row-set, get_or-scaled_row, get_or-add_scaled_row, length-add_scaled_row, length-scaled_row, get_or-column_of, column_of-set}
+use Rattle.gf_core.proofs.RowLemmas.{byte_at, row_sum-set, get_or-row_sum_even, scaled_row-set, get_or-scaled_row, get_or-add_scaled_row, length-add_scaled_row, length-scaled_row, get_or-column_of, column_of-set}
 
 -- ---- one operation
 

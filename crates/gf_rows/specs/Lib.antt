@@ -1,4 +1,3 @@
-pub mod Rows
 pub mod HalfProducts
 pub mod Operation
 pub mod Plan

@@ -1,7 +1,7 @@
 -- Matrices of bytes over the field, seen as their rows.
 use Rattle.std.specs.Prelude.{ℕ, ◌≡◌, ◌+◌, ◌*◌, List, [], ◌++◌, All, length, map, take, drop, slice_index, slice_index_or, slice_set}
 use Rattle.std.specs.List.{range_with_len}
-use Rattle.gf_rows.specs.Rows.{AreBytes}
+use Rattle.gf_core.specs.Bytes.{AreBytes}
 
 -- the number of columns, which stands also where there is no row, and the rows from the first to the last
 pub record Grid : Type 0 where

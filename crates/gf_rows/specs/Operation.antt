@@ -3,7 +3,7 @@ use Rattle.std.specs.Prelude.{ℕ, ◌≢◌, ◌<◌, List, [], slice_index, sl
 use Rattle.gf_core.specs.Field.{gf_add, gf_mul}
 use Rattle.gf_rows.specs.declared.operation.Op.{Op}
 use Rattle.gf_rows.specs.declared.operation.Op.TheVariants.{AddScaled, Scale}
-use Rattle.gf_rows.specs.Rows.{add_scaled_row, scaled_row}
+use Rattle.gf_core.specs.Rows.{add_scaled_row, scaled_row}
 
 -- the rows of a sum differ, and the factor of a scaling isn't 0, so that each operation can be undone
 abbrev pub IsRowOperation : Op → Type 0

@@ -1,5 +1,5 @@
 ghost use Rattle.std.specs.Prelude.{◌≡◌, ◌+◌, ◌≤◌, ◌⊎◌, length, slice_range};
-ghost use Rattle.gf_rows.specs.Rows.{add_scaled_row};
+ghost use Rattle.gf_core.specs.Rows.{add_scaled_row};
 ghost use Rattle.gf_rows.specs.Matrix.{with_part};
 
 use crate::kernels::add_scaled;

@@ -1,6 +1,6 @@
 ghost use Rattle.std.specs.Prelude.{◌≡◌, ◌≢◌, ◌+◌, length, slice_index};
 ghost use Rattle.gf_core.specs.Field.{gf_mul, gf_sum};
-ghost use Rattle.gf_rows.specs.Rows.{add_scaled_row, scaled_row};
+ghost use Rattle.gf_core.specs.Rows.{add_scaled_row, scaled_row};
 
 use crate::halves::Halves;
 use crate::steps::Steps;

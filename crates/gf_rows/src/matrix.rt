@@ -1,6 +1,6 @@
 ghost use Rattle.std.specs.Prelude.{◌≡◌, ◌≢◌, ◌+◌, ◌<◌, IfOk, length, replicate, slice_set};
 ghost use Rattle.gf_rows.specs.Matrix.{IsMatrix, matrix_row, matrix_entry, with_matrix_row};
-ghost use Rattle.gf_rows.specs.Rows.{add_scaled_row, scaled_row};
+ghost use Rattle.gf_core.specs.Rows.{add_scaled_row, scaled_row};
 
 use crate::inside::add_scaled_inside;
 use crate::kernels;
@@ -22,7 +22,7 @@ pub struct Matrix {
 impl Model for Matrix {
     ghost use Rattle.std.specs.Prelude.{◌≡◌, ◌*◌, vec_len};
     ghost use Rattle.gf_rows.specs.Matrix.{Grid, rows_of};
-    ghost use Rattle.gf_rows.specs.Rows.{AreBytes};
+    ghost use Rattle.gf_core.specs.Bytes.{AreBytes};
 
     ghost Value = { Grid };
 

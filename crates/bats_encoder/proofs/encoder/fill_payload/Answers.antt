@@ -4,7 +4,7 @@ use Rattle.gf_core.specs.Field.{gf_add, gf_mul, gf_sum}
 use Rattle.bats_model.specs.Batch.{entry_of, contributor_of}
 use Rattle.bats_model.specs.Symbol.{symbol_byte}
 use Rattle.bats_model.specs.Coded.{coded_byte, coded_payload, coded_term}
-use Rattle.gf_rows.proofs.RowLemmas.{get_or-add_scaled_row}
+use Rattle.gf_core.proofs.RowLemmas.{get_or-add_scaled_row}
 use Rattle.bats_encoder.proofs.encoder.fill_payload.Goals as goal
 
 pub loop-k-init : goal.loop-k-init

@@ -1,6 +1,6 @@
 use Rattle.std.proofs.Common.{◌≡◌, ◌≤◌, ◌∙◌, ℕ, List, [], ◌∷◌, ◌++◌, length, take, drop, sym, ap, arith}
-use Rattle.gf_rows.specs.Rows.{row_sum, scaled_row, add_scaled_row}
-use Rattle.gf_rows.proofs.RowLemmas.{row_sum-nil, length-scaled_row, add_scaled_row-zero}
+use Rattle.gf_core.specs.Rows.{row_sum, scaled_row, add_scaled_row}
+use Rattle.gf_core.proofs.RowLemmas.{row_sum-nil, length-scaled_row, add_scaled_row-zero}
 use Rattle.bats_encoder.proofs.row.add_symbol.Goals as goal
 
 -- a sum with a shorter row leaves the rest as it is

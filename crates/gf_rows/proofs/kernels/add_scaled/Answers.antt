@@ -1,7 +1,7 @@
 use Rattle.std.proofs.Common.{◌≡◌, ◌∙◌, get_or, set, ap, arith, take_all}
 use Rattle.gf_core.specs.Field.{gf_add, gf_mul}
-use Rattle.gf_rows.specs.Rows.{add_scaled_row}
-use Rattle.gf_rows.proofs.RowLemmas.{add_scaled_row_none, add_scaled_row_more}
+use Rattle.gf_core.specs.Rows.{add_scaled_row}
+use Rattle.gf_core.proofs.RowLemmas.{add_scaled_row_none, add_scaled_row_more}
 use Rattle.gf_rows.proofs.kernels.add_scaled.Goals as goal
 
 pub loop-i-init : goal.loop-i-init

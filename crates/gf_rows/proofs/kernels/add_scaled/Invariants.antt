@@ -1,5 +1,5 @@
 use Rattle.std.proofs.Common.{◌≡◌, take}
-use Rattle.gf_rows.specs.Rows.{add_scaled_row}
+use Rattle.gf_core.specs.Rows.{add_scaled_row}
 use Rattle.gf_rows.proofs.kernels.add_scaled.Given as goal
 
 abbrev pub invariant-loop-i : goal.invariant-loop-i

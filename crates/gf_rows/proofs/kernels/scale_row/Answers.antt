@@ -2,7 +2,7 @@ use Rattle.std.proofs.Common.{◌≡◌, ◌<◌, ◌++◌, ◌∙◌, length, g
 use Rattle.std.proofs.lemmas.List.{take_all, drop_all, append-nil}
 use Rattle.std.proofs.lemmas.List.Edits.{map_over_more}
 use Rattle.gf_core.specs.Field.{gf_mul}
-use Rattle.gf_rows.specs.Rows.{scaled_row}
+use Rattle.gf_core.specs.Rows.{scaled_row}
 use Rattle.gf_rows.proofs.kernels.scale_row.Goals as goal
 
 pub loop-byte-init : goal.loop-byte-init

@@ -1,5 +1,5 @@
 use Rattle.std.proofs.Common.{◌≡◌, ◌++◌, take, drop}
-use Rattle.gf_rows.specs.Rows.{scaled_row}
+use Rattle.gf_core.specs.Rows.{scaled_row}
 use Rattle.gf_rows.proofs.kernels.scale_row.Given as goal
 
 abbrev pub invariant-loop-byte : goal.invariant-loop-byte

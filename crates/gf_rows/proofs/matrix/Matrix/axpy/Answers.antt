@@ -1,7 +1,8 @@
 use Rattle.std.proofs.Common.{◌≡◌, ◌≤◌, ◌+◌, ◌*◌, ◌∙◌, length, take, drop, ap, arith, subst, sym}
-use Rattle.gf_rows.specs.Rows.{AreBytes, add_scaled_row}
+use Rattle.gf_core.specs.Bytes.{AreBytes}
+use Rattle.gf_core.specs.Rows.{add_scaled_row}
 use Rattle.gf_rows.specs.Matrix.{matrix_row, with_matrix_row}
-use Rattle.gf_rows.proofs.RowLemmas.{length-add_scaled_row}
+use Rattle.gf_core.proofs.RowLemmas.{length-add_scaled_row}
 use Rattle.gf_rows.proofs.BufferLemmas.{length-part, rows_apart, items_of_add_scaled, AreBytes-add_scaled}
 use Rattle.gf_rows.proofs.MatrixLemmas.{within_grid, row_of_grid, grid-with_part}
 use Rattle.gf_rows.proofs.matrix.Matrix.axpy.Goals as goal

@@ -1,8 +1,8 @@
 use Rattle.std.proofs.Common.{◌≡◌, ◌≤◌, ◌+◌, ◌-◌, ◌*◌, ◌∙◌, length, take, drop, ap, arith, rules, sym}
 use borrow.Rule.Slice.PartMut.{put_mid}
-use Rattle.gf_rows.specs.Rows.{scaled_row}
+use Rattle.gf_core.specs.Rows.{scaled_row}
 use Rattle.gf_rows.specs.Matrix.{with_matrix_row, with_part}
-use Rattle.gf_rows.proofs.RowLemmas.{length-scaled_row}
+use Rattle.gf_core.proofs.RowLemmas.{length-scaled_row}
 use Rattle.gf_rows.proofs.BufferLemmas.{length-part, items_of_part, scaled_in_slice}
 use Rattle.gf_rows.proofs.MatrixLemmas.{within_grid, row_of_grid, grid-with_part}
 use Rattle.gf_rows.proofs.matrix.Matrix.scale.Goals as goal

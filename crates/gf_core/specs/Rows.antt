@@ -1,7 +1,6 @@
 -- Rows of bytes over the field, as lists.
 use Rattle.std.specs.Prelude.{ℕ, List, [], ◌∷◌, map, slice_index}
 use Rattle.gf_core.specs.Field.{gf_add, gf_mul}
-pub use Rattle.gf_core.specs.Bytes.{AreBytes}
 
 -- the sum of two rows, entry by entry. It is as long as the first, and a missing entry of the second is 0
 unfoldable pub row_sum : List ℕ → List ℕ → List ℕ

@@ -5,7 +5,8 @@ use Rattle.std.proofs.lemmas.List.Elements.{All-from_get_or, All-head, All-tail}
 use Rattle.gf_core.specs.Field.{gf_add, gf_mul}
 use Rattle.gf_core.proofs.AddLemmas.{gf_add-lt, gf_add-zero, zero-gf_add, gf_add_self, gf_add_assoc, gf_add_comm}
 use Rattle.gf_core.proofs.ProductLemmas.{gf_mul-lt, gf_mul-zero, gf_mul-gf_add, gf_mul-gf_add_left, zero-gf_mul, one-gf_mul, gf_mul_assoc}
-use Rattle.gf_rows.specs.Rows.{AreBytes, row_sum, scaled_row, add_scaled_row, column_of}
+use Rattle.gf_core.specs.Bytes.{AreBytes}
+use Rattle.gf_core.specs.Rows.{row_sum, scaled_row, add_scaled_row, column_of}
 
 pub row_sum-nil : (xs : List ℕ) → row_sum xs [] ≡ xs
 unfolding row_sum
