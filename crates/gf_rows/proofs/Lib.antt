@@ -3,4 +3,5 @@ pub mod PlanLemmas
 pub mod BufferLemmas
 pub mod MatrixLemmas
 pub mod LinearLemmas
+pub mod SolutionLemmas
 mod Examples

@@ -2,3 +2,5 @@ pub mod HalfProducts
 pub mod Operation
 pub mod Plan
 pub mod Matrix
+pub mod Performed
+pub mod Equations
