@@ -4,4 +4,5 @@ pub mod BufferLemmas
 pub mod MatrixLemmas
 pub mod LinearLemmas
 pub mod SolutionLemmas
+pub mod KernelLemmas
 mod Examples
