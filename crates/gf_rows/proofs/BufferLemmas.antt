@@ -279,6 +279,11 @@ scaled_in_slice bytes slice new w at c e h en =
     (ap (put_mid at w bytes) new_is ∙
     put_mid-with_part bytes at w part (length-scaled_row c (take w (drop at bytes)) ∙ length-part bytes at w h)))
 
+-- a row of a slice that is the buffer, which was written whole
+pub written_in_slice : (bytes slice new row : List ℕ) (w at : ℕ) → slice ≡ bytes → new ≡ row → length row ≡ w → put_mid at (at + w - at) slice new ≡ with_part bytes at row
+written_in_slice bytes slice new row w at e en size =
+    ap (λ n. put_mid at n slice new) (less at w) ∙ (ap (λ xs. put_mid at w xs new) e ∙ (ap (put_mid at w bytes) en ∙ put_mid-with_part bytes at w row size))
+
 -- a vector of rows, one of which got a multiple of another
 pub items_of_add_scaled : {Z : Type 0} (v : Vec ℕ Z) (slice ws : List ℕ) (w dst c src : ℕ) → slice ≡ v.items → dst + w ≤ length v.items
     → ws ≡ with_part slice dst (add_scaled_row (slice_range slice dst (dst + w)) c (slice_range slice src (src + w)))

@@ -1,5 +1,5 @@
 -- Matrices: what their buffer says of their rows, and what a change to one row leaves.
-use Rattle.std.proofs.Common.{ℕ, ◌≡◌, ◌≢◌, ◌<◌, ◌≤◌, ◌+◌, ◌*◌, ◌∙◌, List, [], length, get_or, set, take, drop, sym, ap, refl, arith, length-set}
+use Rattle.std.proofs.Common.{ℕ, ◌≡◌, ◌≢◌, ◌<◌, ◌≤◌, ◌+◌, ◌*◌, ◌∙◌, List, [], length, get_or, set, take, drop, sym, ap, refl, subst, arith, length-set}
 use Rattle.std.proofs.lemmas.List.{get_or-set_same, get_or-set_other}
 use Rattle.std.proofs.lemmas.List.Elements.{All-set}
 use Rattle.gf_core.specs.Bytes.{AreBytes}
@@ -80,6 +80,9 @@ place_of_grid n w bytes m r c e l h p =
 
 pub IsMatrix-grid : (n w : ℕ) (bytes : List ℕ) → length bytes ≡ n * w → AreBytes bytes → IsMatrix (grid n w bytes)
 IsMatrix-grid n w bytes l p = record { widths = widths_of_rows n w bytes l; bytes = bytes_of_rows n w bytes p }
+
+pub IsMatrix-of_grid : (n w : ℕ) (bytes : List ℕ) (m : Grid) → grid n w bytes ≡ m → length bytes ≡ n * w → AreBytes bytes → IsMatrix m
+IsMatrix-of_grid n w bytes m e l p = subst IsMatrix e (IsMatrix-grid n w bytes l p)
 
 -- the buffer with another row
 pub grid-with_part : (n w : ℕ) (bytes ws : List ℕ) (m : Grid) (r : ℕ) (row : List ℕ) → grid n w bytes ≡ m → length bytes ≡ n * w → r < length m.rows → length row ≡ w

@@ -63,7 +63,8 @@ impl Matrix {
     pub fn get(&self, r: u32, c: u32) -> Gf
         requires row { r < length self.now.rows }
         requires column { c < self.now.cols }
-        ensures { result ≡ matrix_entry self.now r c }
+        ensures value { result ≡ matrix_entry self.now r c }
+        ensures matrix { IsMatrix self.now }
     {
         Gf::new(self.bytes[r as usize * self.col_count as usize + c as usize])
     }
@@ -72,7 +73,8 @@ impl Matrix {
     pub fn set(&mut self, r: u32, c: u32, v: Gf)
         requires row { r < length self.old.rows }
         requires column { c < self.old.cols }
-        ensures { self.new ≡ with_matrix_row self.old r (slice_set (matrix_row self.old r) c v) }
+        ensures row { self.new ≡ with_matrix_row self.old r (slice_set (matrix_row self.old r) c v) }
+        ensures matrix { IsMatrix self.new }
     {
         let at = r as usize * self.col_count as usize + c as usize;
         self.bytes[at] = v.byte();
@@ -89,12 +91,25 @@ impl Matrix {
         &self.bytes.as_slice()[start..start + width]
     }
 
+    /// Writes a whole row, which has a byte for each column.
+    pub fn set_row(&mut self, r: u32, bytes: &[u8])
+        requires row { r < length self.old.rows }
+        requires width { length bytes.now ≡ self.old.cols }
+        ensures row { self.new ≡ with_matrix_row self.old r bytes.now }
+        ensures matrix { IsMatrix self.new }
+    {
+        let width = self.col_count as usize;
+        let start = r as usize * width;
+        self.bytes.as_mut_slice()[start..start + width].copy_from_slice(bytes);
+    }
+
     /// Adds `c` times row `src` to row `dst`, another row, and counts one step.
     pub fn axpy<C: Ledger>(&mut self, dst: u32, c: Gf, src: u32, coef_steps: &mut Steps<C>)
         requires dst { dst < length self.old.rows }
         requires src { src < length self.old.rows }
         requires apart { dst ≢ src }
         ensures row { self.new ≡ with_matrix_row self.old dst (add_scaled_row (matrix_row self.old dst) c (matrix_row self.old src)) }
+        ensures matrix { IsMatrix self.new }
         ensures counted { coef_steps.new ≡ coef_steps.old + 1 }
     {
         let width = self.col_count as usize;
@@ -113,6 +128,7 @@ impl Matrix {
         requires row { r < length self.old.rows }
         requires factor { c ≢ 0 }
         ensures row { self.new ≡ with_matrix_row self.old r (scaled_row c (matrix_row self.old r)) }
+        ensures matrix { IsMatrix self.new }
         ensures counted { coef_steps.new ≡ coef_steps.old + 1 }
     {
         let width = self.col_count as usize;

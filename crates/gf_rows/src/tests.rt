@@ -74,10 +74,11 @@ fn sums_products(rt: HostRuntime) {
     assert_eq!(rt; dot(&[0x80, 3, 2], &[2, 3, 3]), Gf::new(0x1E));
 }
 
-fn count_steps<L: Ledger, R: Abort>(rt: &R, blank: Blank)
+fn count_steps<L: Ledger, R: Abort>(rt: &R, blank: Blank) -> Steps<L>
     requires name { blank.name ≡ L.name }
     requires parts { blank.parts ≡ L.parts }
     requires some { 0 < blank.parts }
+    ensures { result ≡ 1003 }
 {
     let mut steps: Steps<L> = Steps::new(blank);
     let mut row = [0, 1];
@@ -86,11 +87,14 @@ fn count_steps<L: Ledger, R: Abort>(rt: &R, blank: Blank)
     scale(&mut row, Gf::new(2), &mut steps);
     assert_eq!(rt; row, [10, 2]);
     steps.tick();
+    steps.rise(1000);
+    steps.rise(0);
+    steps
 }
 
 #[test]
 fn counts_steps(rt: HostRuntime) {
-    count_steps::<Brand, HostRuntime>(&rt, Blank::new(1));
+    let _steps = count_steps::<Brand, HostRuntime>(&rt, Blank::new(1));
 }
 
 #[test]
@@ -138,6 +142,10 @@ fn change_matrix<L: Ledger, R: Abort + AllocGlobal>(rt: &R, blank: Blank) -> Res
     assert_eq!(rt; matrix.row(0), [0x80, 0].as_slice());
     assert_eq!(rt; matrix.row(1), [0x1D, 5].as_slice());
     assert_eq!(rt; matrix.row(2), [0, 6].as_slice());
+    matrix.set_row(1, &[7, 0x80]);
+    assert_eq!(rt; matrix.row(0), [0x80, 0].as_slice());
+    assert_eq!(rt; matrix.row(1), [7, 0x80].as_slice());
+    assert_eq!(rt; matrix.row(2), [0, 6].as_slice());
     Ok(())
 }
 
@@ -151,9 +159,10 @@ fn makes_empty_matrices(rt: HostRuntime) -> Result<(), Fail> {
     let no_rows = Matrix::zeros(rt.alloc(), 0, 7)?;
     assert_eq!(rt; no_rows.rows(), 0);
     assert_eq!(rt; no_rows.cols(), 7);
-    let no_columns = Matrix::zeros(rt.alloc(), 2, 0)?;
+    let mut no_columns = Matrix::zeros(rt.alloc(), 2, 0)?;
     assert_eq!(rt; no_columns.rows(), 2);
     assert_eq!(rt; no_columns.cols(), 0);
+    no_columns.set_row(1, &[]);
     assert_eq!(rt; no_columns.row(1).len(), 0);
     Ok(())
 }

@@ -1,10 +1,10 @@
-use Rattle.std.proofs.Common.{◌≡◌, ◌≤◌, ◌+◌, ◌-◌, ◌*◌, ◌∙◌, length, take, drop, ap, arith, rules, sym}
+use Rattle.std.proofs.Common.{◌≡◌, ◌≤◌, ◌+◌, ◌-◌, ◌*◌, ◌∙◌, length, take, drop, ap, arith, rules, subst, sym}
 use borrow.Rule.Slice.PartMut.{put_mid}
 use Rattle.gf_core.specs.Rows.{scaled_row}
-use Rattle.gf_rows.specs.Matrix.{with_matrix_row, with_part}
+use Rattle.gf_rows.specs.Matrix.{IsMatrix, with_matrix_row, with_part}
 use Rattle.gf_core.proofs.RowLemmas.{length-scaled_row}
 use Rattle.gf_rows.proofs.BufferLemmas.{length-part, items_of_part, scaled_in_slice}
-use Rattle.gf_rows.proofs.MatrixLemmas.{within_grid, row_of_grid, grid-with_part}
+use Rattle.gf_rows.proofs.MatrixLemmas.{within_grid, row_of_grid, grid-with_part, IsMatrix-of_grid, IsMatrix-scaled}
 use Rattle.gf_rows.proofs.matrix.Matrix.scale.Goals as goal
 
 pub slice_bounds-scale-end : goal.slice_bounds-scale-end
@@ -28,3 +28,8 @@ returns-clause-row g c =
     grid-with_part c.self.inside.row_count width items _ c.args.self.now c.args.r (scaled_row c.args.c row) c.self.view_is size c.requires.row long
     (items_of_part c.self.inside.bytes _ (c.args.r * width) (scaled_row c.args.c row) written (omega (arith, within, long))) ∙
     ap (λ old. with_matrix_row c.args.self.now c.args.r (scaled_row c.args.c old)) (row_of_grid c.self.inside.row_count width items c.args.self.now c.args.r c.self.view_is c.requires.row)
+
+pub returns-clause-matrix : goal.returns-clause-matrix
+returns-clause-matrix g c =
+    let old : IsMatrix c.args.self.now = IsMatrix-of_grid c.self.inside.row_count c.self.inside.col_count c.self.inside.bytes.items c.args.self.now c.self.view_is (sym c.self.inside.bytes.ok.0 ∙ c.self.invariant.0) c.self.invariant.1 in
+    subst IsMatrix (sym (returns-clause-row g c)) (IsMatrix-scaled c.args.self.now c.args.r c.args.c old c.requires.row)
