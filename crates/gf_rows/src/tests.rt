@@ -1,4 +1,4 @@
-ghost use Rattle.std.specs.Prelude.{◌≡◌, ◌≤◌, ◌<◌};
+ghost use Rattle.std.specs.Prelude.{◌≡◌, ◌+◌, ◌≤◌, ◌<◌};
 
 use super::*;
 use gf_core::Gf;
@@ -74,27 +74,32 @@ fn sums_products(rt: HostRuntime) {
     assert_eq!(rt; dot(&[0x80, 3, 2], &[2, 3, 3]), Gf::new(0x1E));
 }
 
-fn count_steps<L: Ledger, R: Abort>(rt: &R, blank: Blank) -> Steps<L>
-    requires name { blank.name ≡ L.name }
-    requires parts { blank.parts ≡ L.parts }
-    requires some { 0 < blank.parts }
-    ensures { result ≡ 1003 }
+// Takes 3 steps, and then 1,000 in one call.
+fn take_steps<L: Ledger, R: Abort>(rt: &R, steps: &mut Steps<L>)
+    ensures { steps.new ≡ steps.old + 1003 }
 {
-    let mut steps: Steps<L> = Steps::new(blank);
     let mut row = [0, 1];
-    axpy(&mut row, Gf::new(3), &[3, 0], &mut steps);
+    axpy(&mut row, Gf::new(3), &[3, 0], steps);
     assert_eq!(rt; row, [5, 1]);
-    scale(&mut row, Gf::new(2), &mut steps);
+    scale(&mut row, Gf::new(2), steps);
     assert_eq!(rt; row, [10, 2]);
     steps.tick();
     steps.rise(1000);
     steps.rise(0);
-    steps
+}
+
+fn count_steps<L: Ledger, R: Abort>(rt: &R, blank: Blank)
+    requires name { blank.name ≡ L.name }
+    requires parts { blank.parts ≡ L.parts }
+    requires some { 0 < blank.parts }
+{
+    let mut steps: Steps<L> = Steps::new(blank);
+    take_steps(rt, &mut steps);
 }
 
 #[test]
 fn counts_steps(rt: HostRuntime) {
-    let _steps = count_steps::<Brand, HostRuntime>(&rt, Blank::new(1));
+    count_steps::<Brand, HostRuntime>(&rt, Blank::new(1));
 }
 
 #[test]
