@@ -1,4 +1,4 @@
-ghost use Rattle.std.specs.Prelude.{◌≡◌, ◌*◌, ◌<◌};
+ghost use Rattle.std.specs.Prelude.{◌≡◌, ◌*◌, ◌<◌, ℕ, length, slice_index};
 
 use crate::{Bytes, Nums};
 use gf_core::Gf;
@@ -115,5 +115,34 @@ impl Batch {
         ensures { result ≡ entry_of self.now k j }
     {
         Gf::new(self.entries[k as usize * self.columns as usize + j as usize])
+    }
+
+    /// Row `k` of the generator, the entries of contributor `k`: a byte for each column.
+    pub fn row(&self, k: u32) -> &[u8]
+        requires { k < degree_of self.now }
+        ensures width { length result.now ≡ self.now.columns }
+        ensures entries { (j : ℕ) → j < self.now.columns → slice_index result.now j ≡ entry_of self.now k j }
+    {
+        let width = self.columns as usize;
+        let start = k as usize * width;
+        &self.entries.as_slice()[start..start + width]
+    }
+}
+
+#[cfg(test)]
+mod tests {
+    use super::*;
+    use std::test::Fail;
+
+    #[test]
+    fn lends_its_rows(rt: HostRuntime) -> Result<(), Fail> {
+        let mut contributors = Nums::new(rt.alloc());
+        contributors.push(7)?;
+        contributors.push(2)?;
+        let entries = Bytes::copy_of(rt.alloc(), &[3, 4, 5, 6, 0, 255])?;
+        let batch = Batch::new(3, 1, contributors, entries);
+        assert_eq!(rt; batch.row(0), [3, 4, 5].as_slice());
+        assert_eq!(rt; batch.row(1), [6, 0, 255].as_slice());
+        Ok(())
     }
 }
