@@ -1,4 +1,5 @@
 pub mod HalfLemmas
+pub mod LaneLemmas
 pub mod PlanLemmas
 pub mod BufferLemmas
 pub mod MatrixLemmas

@@ -1,9 +1,9 @@
 ghost use Rattle.std.specs.Prelude.{◌≡◌, ◌≢◌, ◌+◌, length, slice_index};
 ghost use Rattle.gf_core.specs.Field.{gf_mul, gf_sum};
-ghost use Rattle.gf_core.specs.Rows.{add_scaled_row, scaled_row};
+ghost use Rattle.gf_core.specs.Rows.{add_scaled_row, row_sum, scaled_row};
 
-use crate::halves::Halves;
 use crate::steps::Steps;
+use crate::{lanes, plain};
 use gf_core::Gf;
 use std::sync::ledger::Ledger;
 
@@ -12,10 +12,43 @@ pub fn add_scaled(dst: &mut [u8], c: Gf, src: &[u8])
     requires { length dst.old ≡ length src.now }
     ensures { dst.new ≡ add_scaled_row dst.old c src.now }
 {
-    let products = Halves::of(c);
-    for i in 0..dst.len() {
-        dst[i] ^= products.times(src[i]);
+    match c.byte() {
+        0 => {}
+        1 => add_row(dst, src),
+        _ => add_multiple(dst, c, src),
     }
+}
+
+// Adds each byte of `src` to the byte of `dst` at the same place.
+fn add_row(dst: &mut [u8], src: &[u8])
+    requires { length dst.old ≡ length src.now }
+    ensures { dst.new ≡ row_sum dst.old src.now }
+{
+    let whole = dst.len() / 32 * 32;
+    lanes::add_row(&mut dst[..whole], &src[..whole]);
+    plain::add_row(&mut dst[whole..], &src[whole..]);
+}
+
+// Does what `add_scaled` does. Rows that fill no vector are multiplied without tables.
+fn add_multiple(dst: &mut [u8], c: Gf, src: &[u8])
+    requires { length dst.old ≡ length src.now }
+    ensures { dst.new ≡ add_scaled_row dst.old c src.now }
+{
+    if dst.len() < 32 {
+        plain::add_scaled(dst, c, src);
+    } else {
+        add_by_vectors(dst, c, src);
+    }
+}
+
+// Does what `add_scaled` does, with the bytes that fill vectors first and then the others.
+fn add_by_vectors(dst: &mut [u8], c: Gf, src: &[u8])
+    requires { length dst.old ≡ length src.now }
+    ensures { dst.new ≡ add_scaled_row dst.old c src.now }
+{
+    let whole = dst.len() / 32 * 32;
+    lanes::add_scaled(&mut dst[..whole], c, &src[..whole]);
+    plain::add_scaled(&mut dst[whole..], c, &src[whole..]);
 }
 
 /// Makes each byte `c` times itself. The factor isn't 0.
@@ -23,10 +56,23 @@ pub fn scale_row(row: &mut [u8], c: Gf)
     requires { c ≢ 0 }
     ensures { row.new ≡ scaled_row c row.old }
 {
-    let products = Halves::of(c);
-    for byte in row.iter_mut() {
-        *byte = products.times(*byte);
+    if c.byte() == 1 {
+        return;
     }
+    if row.len() < 32 {
+        plain::scale_row(row, c);
+    } else {
+        scale_by_vectors(row, c);
+    }
+}
+
+// Does what `scale_row` does, with the bytes that fill vectors first and then the others.
+fn scale_by_vectors(row: &mut [u8], c: Gf)
+    ensures { row.new ≡ scaled_row c row.old }
+{
+    let whole = row.len() / 32 * 32;
+    lanes::scale_row(&mut row[..whole], c);
+    plain::scale_row(&mut row[whole..], c);
 }
 
 /// Does what `add_scaled` does, and counts one step.

@@ -6,8 +6,10 @@
 mod halves;
 mod inside;
 mod kernels;
+mod lanes;
 mod matrix;
 mod operation;
+mod plain;
 mod plan;
 mod steps;
 
