@@ -1,7 +1,9 @@
 ghost use Rattle.std.specs.Prelude.{◌≡◌, ◌≢◌, ◌+◌, length, slice_index};
 ghost use Rattle.gf_core.specs.Field.{gf_mul, gf_sum};
 ghost use Rattle.gf_core.specs.Rows.{add_scaled_row, row_sum, scaled_row};
+ghost use Rattle.gf_rows.specs.Multiples.{sum_of_four};
 
+use crate::multiple::Multiple;
 use crate::steps::Steps;
 use crate::{lanes, plain};
 use gf_core::Gf;
@@ -49,6 +51,65 @@ fn add_by_vectors(dst: &mut [u8], c: Gf, src: &[u8])
     let whole = dst.len() / 32 * 32;
     lanes::add_scaled(&mut dst[..whole], c, &src[..whole]);
     plain::add_scaled(&mut dst[whole..], c, &src[whole..]);
+}
+
+/// Adds four multiples to `dst`, one after another, in a single pass over it. All rows have its length.
+pub fn add_four(dst: &mut [u8], a: &Multiple, b: &Multiple, c: &Multiple, d: &Multiple)
+    requires length_a { length dst.old ≡ length a.now.row.now }
+    requires length_b { length dst.old ≡ length b.now.row.now }
+    requires length_c { length dst.old ≡ length c.now.row.now }
+    requires length_d { length dst.old ≡ length d.now.row.now }
+    ensures { dst.new ≡ add_scaled_row (add_scaled_row (add_scaled_row (add_scaled_row dst.old
+        a.now.factor a.now.row.now) b.now.factor b.now.row.now) c.now.factor c.now.row.now)
+        d.now.factor d.now.row.now }
+{
+    if dst.len() < 32 {
+        add_each(dst, a, b, c, d);
+    } else {
+        add_four_by_vectors(dst, a, b, c, d);
+    }
+}
+
+// Does what `add_four` does, a row at a time, without tables.
+fn add_each(dst: &mut [u8], a: &Multiple, b: &Multiple, c: &Multiple, d: &Multiple)
+    requires length_a { length dst.old ≡ length a.now.row.now }
+    requires length_b { length dst.old ≡ length b.now.row.now }
+    requires length_c { length dst.old ≡ length c.now.row.now }
+    requires length_d { length dst.old ≡ length d.now.row.now }
+    ensures { dst.new ≡ add_scaled_row (add_scaled_row (add_scaled_row (add_scaled_row dst.old
+        a.now.factor a.now.row.now) b.now.factor b.now.row.now) c.now.factor c.now.row.now)
+        d.now.factor d.now.row.now }
+{
+    plain::add_scaled(dst, a.factor, a.row);
+    plain::add_scaled(dst, b.factor, b.row);
+    plain::add_scaled(dst, c.factor, c.row);
+    plain::add_scaled(dst, d.factor, d.row);
+}
+
+// Does what `add_four` does, with the bytes that fill vectors first and then the others.
+fn add_four_by_vectors(dst: &mut [u8], a: &Multiple, b: &Multiple, c: &Multiple, d: &Multiple)
+    requires length_a { length dst.old ≡ length a.now.row.now }
+    requires length_b { length dst.old ≡ length b.now.row.now }
+    requires length_c { length dst.old ≡ length c.now.row.now }
+    requires length_d { length dst.old ≡ length d.now.row.now }
+    ensures { dst.new ≡ row_sum dst.old (sum_of_four a.now.factor a.now.row.now b.now.factor b.now.row.now
+        c.now.factor c.now.row.now d.now.factor d.now.row.now) }
+{
+    let whole = dst.len() / 32 * 32;
+    lanes::add_four(
+        &mut dst[..whole],
+        &a.front(whole),
+        &b.front(whole),
+        &c.front(whole),
+        &d.front(whole),
+    );
+    add_each(
+        &mut dst[whole..],
+        &a.back(whole),
+        &b.back(whole),
+        &c.back(whole),
+        &d.back(whole),
+    );
 }
 
 /// Makes each byte `c` times itself. The factor isn't 0.

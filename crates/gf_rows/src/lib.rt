@@ -8,13 +8,15 @@ mod inside;
 mod kernels;
 mod lanes;
 mod matrix;
+mod multiple;
 mod operation;
 mod plain;
 mod plan;
 mod steps;
 
-pub use kernels::{add_scaled, axpy, dot, scale, scale_row};
+pub use kernels::{add_four, add_scaled, axpy, dot, scale, scale_row};
 pub use matrix::Matrix;
+pub use multiple::Multiple;
 pub use operation::Op;
 pub use plan::Plan;
 pub use steps::Steps;
