@@ -1,4 +1,6 @@
 pub mod HalfLemmas
+pub mod LaneLemmas
+pub mod MultipleLemmas
 pub mod PlanLemmas
 pub mod BufferLemmas
 pub mod MatrixLemmas

@@ -1,4 +1,5 @@
 pub mod HalfProducts
+pub mod Multiples
 pub mod Operation
 pub mod Plan
 pub mod Matrix

@@ -1,9 +1,11 @@
 ghost use Rattle.std.specs.Prelude.{◌≡◌, ◌≢◌, ◌+◌, length, slice_index};
 ghost use Rattle.gf_core.specs.Field.{gf_mul, gf_sum};
-ghost use Rattle.gf_core.specs.Rows.{add_scaled_row, scaled_row};
+ghost use Rattle.gf_core.specs.Rows.{add_scaled_row, row_sum, scaled_row};
+ghost use Rattle.gf_rows.specs.Multiples.{sum_of_four};
 
-use crate::halves::Halves;
+use crate::multiple::Multiple;
 use crate::steps::Steps;
+use crate::{lanes, plain};
 use gf_core::Gf;
 use std::sync::ledger::Ledger;
 
@@ -12,10 +14,102 @@ pub fn add_scaled(dst: &mut [u8], c: Gf, src: &[u8])
     requires { length dst.old ≡ length src.now }
     ensures { dst.new ≡ add_scaled_row dst.old c src.now }
 {
-    let products = Halves::of(c);
-    for i in 0..dst.len() {
-        dst[i] ^= products.times(src[i]);
+    match c.byte() {
+        0 => {}
+        1 => add_row(dst, src),
+        _ => add_multiple(dst, c, src),
     }
+}
+
+// Adds each byte of `src` to the byte of `dst` at the same place.
+fn add_row(dst: &mut [u8], src: &[u8])
+    requires { length dst.old ≡ length src.now }
+    ensures { dst.new ≡ row_sum dst.old src.now }
+{
+    let whole = dst.len() / 32 * 32;
+    lanes::add_row(&mut dst[..whole], &src[..whole]);
+    plain::add_row(&mut dst[whole..], &src[whole..]);
+}
+
+// Does what `add_scaled` does. Rows that fill no vector are multiplied without tables.
+fn add_multiple(dst: &mut [u8], c: Gf, src: &[u8])
+    requires { length dst.old ≡ length src.now }
+    ensures { dst.new ≡ add_scaled_row dst.old c src.now }
+{
+    if dst.len() < 32 {
+        plain::add_scaled(dst, c, src);
+    } else {
+        add_by_vectors(dst, c, src);
+    }
+}
+
+// Does what `add_scaled` does, with the bytes that fill vectors first and then the others.
+fn add_by_vectors(dst: &mut [u8], c: Gf, src: &[u8])
+    requires { length dst.old ≡ length src.now }
+    ensures { dst.new ≡ add_scaled_row dst.old c src.now }
+{
+    let whole = dst.len() / 32 * 32;
+    lanes::add_scaled(&mut dst[..whole], c, &src[..whole]);
+    plain::add_scaled(&mut dst[whole..], c, &src[whole..]);
+}
+
+/// Adds four multiples to `dst`, one after another, in a single pass over it. All rows have its length.
+pub fn add_four(dst: &mut [u8], a: &Multiple, b: &Multiple, c: &Multiple, d: &Multiple)
+    requires length_a { length dst.old ≡ length a.now.row.now }
+    requires length_b { length dst.old ≡ length b.now.row.now }
+    requires length_c { length dst.old ≡ length c.now.row.now }
+    requires length_d { length dst.old ≡ length d.now.row.now }
+    ensures { dst.new ≡ add_scaled_row (add_scaled_row (add_scaled_row (add_scaled_row dst.old
+        a.now.factor a.now.row.now) b.now.factor b.now.row.now) c.now.factor c.now.row.now)
+        d.now.factor d.now.row.now }
+{
+    if dst.len() < 32 {
+        add_each(dst, a, b, c, d);
+    } else {
+        add_four_by_vectors(dst, a, b, c, d);
+    }
+}
+
+// Does what `add_four` does, a row at a time, without tables.
+fn add_each(dst: &mut [u8], a: &Multiple, b: &Multiple, c: &Multiple, d: &Multiple)
+    requires length_a { length dst.old ≡ length a.now.row.now }
+    requires length_b { length dst.old ≡ length b.now.row.now }
+    requires length_c { length dst.old ≡ length c.now.row.now }
+    requires length_d { length dst.old ≡ length d.now.row.now }
+    ensures { dst.new ≡ add_scaled_row (add_scaled_row (add_scaled_row (add_scaled_row dst.old
+        a.now.factor a.now.row.now) b.now.factor b.now.row.now) c.now.factor c.now.row.now)
+        d.now.factor d.now.row.now }
+{
+    plain::add_scaled(dst, a.factor, a.row);
+    plain::add_scaled(dst, b.factor, b.row);
+    plain::add_scaled(dst, c.factor, c.row);
+    plain::add_scaled(dst, d.factor, d.row);
+}
+
+// Does what `add_four` does, with the bytes that fill vectors first and then the others.
+fn add_four_by_vectors(dst: &mut [u8], a: &Multiple, b: &Multiple, c: &Multiple, d: &Multiple)
+    requires length_a { length dst.old ≡ length a.now.row.now }
+    requires length_b { length dst.old ≡ length b.now.row.now }
+    requires length_c { length dst.old ≡ length c.now.row.now }
+    requires length_d { length dst.old ≡ length d.now.row.now }
+    ensures { dst.new ≡ row_sum dst.old (sum_of_four a.now.factor a.now.row.now b.now.factor b.now.row.now
+        c.now.factor c.now.row.now d.now.factor d.now.row.now) }
+{
+    let whole = dst.len() / 32 * 32;
+    lanes::add_four(
+        &mut dst[..whole],
+        &a.front(whole),
+        &b.front(whole),
+        &c.front(whole),
+        &d.front(whole),
+    );
+    add_each(
+        &mut dst[whole..],
+        &a.back(whole),
+        &b.back(whole),
+        &c.back(whole),
+        &d.back(whole),
+    );
 }
 
 /// Makes each byte `c` times itself. The factor isn't 0.
@@ -23,10 +117,23 @@ pub fn scale_row(row: &mut [u8], c: Gf)
     requires { c ≢ 0 }
     ensures { row.new ≡ scaled_row c row.old }
 {
-    let products = Halves::of(c);
-    for byte in row.iter_mut() {
-        *byte = products.times(*byte);
+    if c.byte() == 1 {
+        return;
     }
+    if row.len() < 32 {
+        plain::scale_row(row, c);
+    } else {
+        scale_by_vectors(row, c);
+    }
+}
+
+// Does what `scale_row` does, with the bytes that fill vectors first and then the others.
+fn scale_by_vectors(row: &mut [u8], c: Gf)
+    ensures { row.new ≡ scaled_row c row.old }
+{
+    let whole = row.len() / 32 * 32;
+    lanes::scale_row(&mut row[..whole], c);
+    plain::scale_row(&mut row[whole..], c);
 }
 
 /// Does what `add_scaled` does, and counts one step.

@@ -6,13 +6,17 @@
 mod halves;
 mod inside;
 mod kernels;
+mod lanes;
 mod matrix;
+mod multiple;
 mod operation;
+mod plain;
 mod plan;
 mod steps;
 
-pub use kernels::{add_scaled, axpy, dot, scale, scale_row};
+pub use kernels::{add_four, add_scaled, axpy, dot, scale, scale_row};
 pub use matrix::Matrix;
+pub use multiple::Multiple;
 pub use operation::Op;
 pub use plan::Plan;
 pub use steps::Steps;

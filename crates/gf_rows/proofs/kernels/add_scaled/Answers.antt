@@ -1,20 +1,15 @@
-use Rattle.std.proofs.Common.{◌≡◌, ◌∙◌, get_or, set, ap, arith, take_all}
-use Rattle.gf_core.specs.Field.{gf_add, gf_mul}
-use Rattle.gf_core.specs.Rows.{add_scaled_row}
-use Rattle.gf_core.proofs.RowLemmas.{add_scaled_row_none, add_scaled_row_more}
+use Rattle.std.proofs.Common.{◌≡◌, ◌∙◌, ap, sym}
+use Rattle.gf_core.specs.Rows.{row_sum, add_scaled_row}
+use Rattle.gf_core.proofs.RowLemmas.{add_scaled_row-zero, scaled_row-one}
 use Rattle.gf_rows.proofs.kernels.add_scaled.Goals as goal
 
-pub loop-i-init : goal.loop-i-init
-loop-i-init c = add_scaled_row_none c.args.dst.now c.args.c c.args.src.now
+pub returns-in-0 : goal.returns-in-0
+returns-in-0 c =
+    let none : c.args.c ≡ 0 = sym c.byte.ensures ∙ c.in-0.is in
+    sym (ap (λ factor. add_scaled_row c.args.dst.now factor c.args.src.now) none ∙ add_scaled_row-zero c.args.dst.now c.args.src.now)
 
-pub loop-i-preserved : goal.loop-i-preserved
-loop-i-preserved c =
-    let product : c.times.result ≡ gf_mul c.args.c (get_or c.args.src.now c.loop-i.i 0) =
-    c.times.ensures ∙ ap (λ factor. gf_mul factor (get_or c.args.src.now c.loop-i.i 0)) c.of-products.ensures in
-    ap (λ byte. set c.loop-i.dst c.loop-i.i (gf_add (get_or c.loop-i.dst c.loop-i.i 0) byte)) product ∙
-    (ap (λ row. set row c.loop-i.i (gf_add (get_or row c.loop-i.i 0) (gf_mul c.args.c (get_or c.args.src.now c.loop-i.i 0)))) c.loop-i.invariant ∙
-    add_scaled_row_more c.args.dst.now c.args.c c.args.src.now c.loop-i.i (omega arith) (omega arith))
-
-pub returns : goal.returns
-returns c =
-    c.loop-i.invariant ∙ ap (add_scaled_row c.args.dst.now c.args.c) (take_all c.loop-i.i c.args.src.now (omega arith))
+pub returns-in-1 : goal.returns-in-1
+returns-in-1 c =
+    let one : c.args.c ≡ 1 = sym c.byte.ensures ∙ c.in-1.is in
+    c.add_row.ensures ∙
+    sym (ap (λ factor. add_scaled_row c.args.dst.now factor c.args.src.now) one ∙ ap (row_sum c.args.dst.now) (scaled_row-one c.args.src.now))

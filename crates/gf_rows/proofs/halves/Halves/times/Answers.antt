@@ -1,9 +1,11 @@
-use Rattle.std.proofs.Common.{◌∙◌, ap, arith}
-use Rattle.gf_core.specs.Field.{gf_mul}
-use Rattle.gf_rows.proofs.HalfLemmas.{look_up_halves}
+use Rattle.gf_rows.proofs.LaneLemmas.{low_places, high_places, products_of_lanes}
 use Rattle.gf_rows.proofs.halves.Halves.times.Goals as goal
 
+pub swizzle : goal.swizzle
+swizzle c = low_places c.args.v c.fits-v
+
+pub swizzle-2 : goal.swizzle-2
+swizzle-2 c = high_places c.args.v c.fits-v
+
 pub returns : goal.returns
-returns c =
-    look_up_halves c.self.inside.factor c.self.inside.low c.self.inside.high c.args.byte (omega arith) c.self.invariant ∙
-    ap (λ factor. gf_mul factor c.args.byte) c.self.view_is
+returns c factor are = products_of_lanes factor c.args.self.low c.args.self.high c.args.v are c.fits-v
