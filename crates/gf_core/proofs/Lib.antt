@@ -5,4 +5,5 @@ pub mod ProductLemmas
 pub mod PowerLemmas
 pub mod InverseLemmas
 pub mod RowLemmas
+pub mod SearchLemmas
 mod Examples
