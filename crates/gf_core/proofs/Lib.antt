@@ -5,4 +5,6 @@ pub mod ProductLemmas
 pub mod PowerLemmas
 pub mod InverseLemmas
 pub mod RowLemmas
+pub mod LinearRows
+pub mod CombinationLemmas
 mod Examples
