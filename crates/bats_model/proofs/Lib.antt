@@ -1,6 +1,7 @@
 pub mod SystematicBatches
 pub mod EachBatch
 pub mod SymbolValues
+pub mod NewPackets
 pub mod RightAnswers
 pub mod Files
 pub mod EachList
