@@ -6,4 +6,6 @@ pub mod PowerLemmas
 pub mod InverseLemmas
 pub mod RowLemmas
 pub mod SearchLemmas
+pub mod LinearRows
+pub mod CombinationLemmas
 mod Examples

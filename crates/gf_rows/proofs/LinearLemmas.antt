@@ -1,30 +1,18 @@
--- A linear function of rows, such as the entry at a place or the product with a list of elements. Operations on the
--- rows do to the list of its values what they do to a column.
-use Rattle.std.proofs.Common.{ℕ, ◌≡◌, ◌<◌, ◌∙◌, List, [], ◌∷◌, length, get_or, set, sym, ap, refl, arith}
+-- Operations on rows do to the list of a linear function's values what they do to a column.
+use Rattle.std.proofs.Common.{ℕ, ◌≡◌, ◌∙◌, List, [], ◌∷◌, length, get_or, set, sym, ap, refl}
 use Rattle.std.specs.Prelude.{All, map}
 use Rattle.std.proofs.lemmas.List.{map-set, get_or-map}
 use Rattle.std.proofs.lemmas.List.Elements.{All-head, All-tail, All-set}
-use Rattle.gf_core.specs.Field.{gf_add, gf_mul, gf_sum}
-use Rattle.gf_core.proofs.SumLemmas.{gf_sum-congruence, gf_sum-gf_add}
-use Rattle.gf_core.proofs.ProductLemmas.{gf_mul-gf_add_left, gf_mul-gf_sum, gf_mul_assoc}
+use Rattle.gf_core.specs.Field.{gf_add, gf_mul}
 use Rattle.gf_rows.specs.declared.operation.Op.{Op}
 use Rattle.gf_rows.specs.declared.operation.Op.TheVariants.{AddScaled, Scale}
 use Rattle.gf_core.specs.Bytes.{AreBytes}
 use Rattle.gf_core.specs.Rows.{scaled_row, add_scaled_row}
 use Rattle.gf_rows.specs.Operation.{FitsRows, op_on_column, op_on_rows}
 use Rattle.gf_rows.specs.Plan.{plan_on_column, plan_on_rows}
-use Rattle.gf_core.proofs.RowLemmas.{byte_at, get_or-add_scaled_row, get_or-scaled_row, add_scaled_row-lt, scaled_row-lt}
+use Rattle.gf_core.proofs.RowLemmas.{add_scaled_row-lt, scaled_row-lt}
+use Rattle.gf_core.proofs.LinearRows.{AreRows, IsLinear}
 use Rattle.gf_rows.proofs.PlanLemmas.{length-op_on_rows, op_on_rows-widths}
-
--- the function of rows of this width keeps sums and multiples
-pub record IsLinear (width : ℕ) (h : List ℕ → ℕ) : Type 0 where
-  pub of_sum : (a : List ℕ) (c : ℕ) (b : List ℕ) → length a ≡ width → length b ≡ width → AreBytes a → AreBytes b → h (add_scaled_row a c b) ≡ gf_add (h a) (gf_mul c (h b))
-  pub of_multiple : (c : ℕ) (a : List ℕ) → length a ≡ width → AreBytes a → h (scaled_row c a) ≡ gf_mul c (h a)
-
--- each of the rows has this width, and bytes
-pub record AreRows (width : ℕ) (rows : List (List ℕ)) : Type 0 where
-  pub widths : All (λ row. length row ≡ width) rows
-  pub bytes : All AreBytes rows
 
 -- rows of bytes stay rows of bytes
 pub AreRows-op_on_rows : (width : ℕ) (rows : List (List ℕ)) (op : Op) → FitsRows (length rows) op → AreRows width rows → AreRows width (op_on_rows rows op)
@@ -68,20 +56,3 @@ AreRows-plan_on_rows width [] rows fits are = are
 AreRows-plan_on_rows width (op ∷ ops) rows fits are =
     AreRows-plan_on_rows width ops (op_on_rows rows op) (rw (length-op_on_rows rows op) (All-tail (FitsRows (length rows)) op ops fits))
     (AreRows-op_on_rows width rows op (All-head (FitsRows (length rows)) op ops fits) are)
-
--- the product with a list of elements is linear
-pub IsLinear-product : (width : ℕ) (x : ℕ → ℕ) → ((j : ℕ) → j < width → x j < 256) → IsLinear width (λ row. gf_sum width (λ j. gf_mul (get_or row j 0) (x j)))
-IsLinear-product width x below = record {
-  of_sum = λ a c b la lb pa pb.
-      gf_sum-congruence width (λ j. gf_mul (get_or (add_scaled_row a c b) j 0) (x j)) (λ j. gf_add (gf_mul (get_or a j 0) (x j)) (gf_mul c (gf_mul (get_or b j 0) (x j))))
-      (λ j h.
-      ap (λ y. gf_mul y (x j)) (get_or-add_scaled_row a c b j (omega (arith, la))) ∙
-      (gf_mul-gf_add_left (get_or a j 0) (gf_mul c (get_or b j 0)) (x j) ∙
-      ap (gf_add (gf_mul (get_or a j 0) (x j))) (gf_mul_assoc c (get_or b j 0) (x j) (byte_at b j pb) (below j h)))) ∙
-      (gf_sum-gf_add width (λ j. gf_mul (get_or a j 0) (x j)) (λ j. gf_mul c (gf_mul (get_or b j 0) (x j))) ∙
-      ap (gf_add (gf_sum width (λ j. gf_mul (get_or a j 0) (x j)))) (sym (gf_mul-gf_sum c width (λ j. gf_mul (get_or b j 0) (x j)))));
-  of_multiple = λ c a la pa.
-      gf_sum-congruence width (λ j. gf_mul (get_or (scaled_row c a) j 0) (x j)) (λ j. gf_mul c (gf_mul (get_or a j 0) (x j)))
-      (λ j h. ap (λ y. gf_mul y (x j)) (get_or-scaled_row c a j) ∙ gf_mul_assoc c (get_or a j 0) (x j) (byte_at a j pa) (below j h)) ∙
-      sym (gf_mul-gf_sum c width (λ j. gf_mul (get_or a j 0) (x j)));
-}
