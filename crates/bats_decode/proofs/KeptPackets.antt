@@ -1,33 +1,27 @@
--- A plain packet is a repeat exactly where its vector is a combination of those of the earlier packets of its batch.
-use Rattle.std.proofs.Common.{ℕ, suc, zero, ◌≡◌, ◌≢◌, ◌<◌, ◌∙◌, ◌↔◌, ◌∷◌, [], ◌==◌, sym, ap, refl, true, false, List, All, length, get_or, inl, inr, arith, subst}
+-- A plain packet is a repeat exactly where its vector is a combination of those of the earlier packets of its batch, and
+-- new exactly where it is no repeat.
+use Rattle.std.proofs.Common.{ℕ, suc, zero, ◌≡◌, ◌≢◌, ◌<◌, ◌∙◌, ◌↔◌, ◌∷◌, [], ◌==◌, sym, ap, refl, true, false, not, List, All, length, get_or, inl, inr, arith, subst}
 use Rattle.std.specs.Str.{bytes_eq}
-use Rattle.std.proofs.lemmas.Bool.{false≢true, and_cases, and_parts, eqb-true, cases_eq, cases_Bool, or_cases, or_parts, eq-eqb}
+use Rattle.std.proofs.lemmas.Bool.{false≢true, false_from_ne_true, and_cases, and_parts, eqb-true, cases_eq, cases_Bool, or_cases, or_parts, eq-eqb}
 use Rattle.std.proofs.lemmas.Bool.Decides.{not_from_Decides}
+use Rattle.std.proofs.lemmas.List.{ext_get_or}
 use Rattle.std.proofs.lemmas.List.Elements.{All-head, All-tail, All-from_get_or}
 use Rattle.std.proofs.lemmas.Slice.Eq.{bytes_eq-Decides}
 use Rattle.gf_core.specs.Field.{gf_mul}
 use Rattle.gf_core.proofs.SumLemmas.{gf_sum-one, gf_sum-zeros}
 use Rattle.gf_core.proofs.ProductLemmas.{zero-gf_mul, gf_mul-zero, one-gf_mul}
+use Rattle.gf_core.specs.Combinations.{combination}
+use Rattle.gf_core.proofs.CombinationLemmas.{length-combination, get_or-combination}
 use Rattle.bats_model.proofs.UnitVectors.{length-unit_vector}
 use Rattle.bats_model.specs.Bytes.{AreBytes}
 use Rattle.bats_model.specs.Session.{SessionData}
 use Rattle.bats_model.specs.Coded.{unit_vector}
 use Rattle.bats_model.specs.Plain.{IsUnitAt, IsPlain}
-use Rattle.bats_model.specs.Kept.{is_same_vector, is_repeat, kept_after, kept_count, vectors_of, IsCombination}
+use Rattle.bats_model.specs.Kept.{vectors_of, IsCombination, is_new}
 use Rattle.bats_model.specs.declared.packet.Packet.{Packet}
 use Rattle.bats_model.proofs.UnitVectors.{one-at, zero-elsewhere}
-
--- two columns of one batch, and the first of them again
-kept-repeat : kept_count (record { batch = 0; coefs = 1 ∷ 0 ∷ []; payload = 1 ∷ [] } ∷ record { batch = 0; coefs = 0 ∷ 1 ∷ []; payload = 2 ∷ [] }
-    ∷ record { batch = 0; coefs = 1 ∷ 0 ∷ []; payload = 1 ∷ [] } ∷ []) ≡ 2
-unfolding kept_after
-kept-repeat = refl
-
--- one vector in two batches
-kept-batches : kept_count (record { batch = 0; coefs = 1 ∷ 0 ∷ []; payload = 1 ∷ [] }
-    ∷ record { batch = 1; coefs = 1 ∷ 0 ∷ []; payload = 1 ∷ [] } ∷ []) ≡ 2
-unfolding kept_after
-kept-batches = refl
+use Rattle.bats_model.proofs.NewPackets.{is_new-Decides}
+use Rattle.bats_decode.specs.Repeats.{is_same_vector, is_repeat}
 
 unit_vector-is : (n k : ℕ) → k < n → IsUnitAt (unit_vector n k) k
 unit_vector-is n k b = record {
@@ -81,6 +75,7 @@ IsAmong-repeat (p ∷ ps) packet e =
 IsCombination-among : (vectors : List (List ℕ)) (vector : List ℕ) → IsAmong vectors vector → IsCombination vectors vector
 IsCombination-among vectors vector h =
     let n : ℕ = length vectors in
+    let width : ℕ = length vector in
     let factors : List ℕ = unit_vector n h.at in
     let unit : IsUnitAt factors h.at = unit_vector-is n h.at h.within in
     let term : ℕ → ℕ → ℕ = λ i k. gf_mul (get_or factors k 0) (get_or (get_or vectors k []) i 0) in
@@ -88,8 +83,9 @@ IsCombination-among vectors vector h =
       factors = factors;
       bytes = unit_vector-bytes n h.at h.within;
       size = length-unit_vector n h.at;
-      sums = λ i b.
-          sym (gf_sum-one n (term i) h.at h.within (λ k l other.
+      sums = ext_get_or 0 (combination width factors vectors) vector (length-combination width factors vectors) (λ i b.
+          get_or-combination width factors vectors i (omega (arith, length-combination width factors vectors))
+          ∙ gf_sum-one n (term i) h.at h.within (λ k l other.
           ap (λ (x : ℕ). gf_mul x (get_or (get_or vectors k []) i 0))
           (zero-elsewhere factors h.at unit k (omega (arith, length-unit_vector n h.at)) other)
           ∙ zero-gf_mul (get_or (get_or vectors k []) i 0))
@@ -101,7 +97,8 @@ IsCombination-among vectors vector h =
 zero-combination : (vectors : List (List ℕ)) (vector : List ℕ) (j : ℕ) → ((k : ℕ) → k < length vectors → get_or (get_or vectors k []) j 0 ≡ 0)
     → j < length vector → IsCombination vectors vector → get_or vector j 0 ≡ 0
 zero-combination vectors vector j zeros b h =
-    h.sums j b ∙ gf_sum-zeros (length vectors) (λ k. gf_mul (get_or h.factors k 0) (get_or (get_or vectors k []) j 0))
+    ap (λ (v : List ℕ). get_or v j 0) (sym h.sums) ∙ get_or-combination (length vector) h.factors vectors j b
+    ∙ gf_sum-zeros (length vectors) (λ k. gf_mul (get_or h.factors k 0) (get_or (get_or vectors k []) j 0))
     (λ k l. ap (gf_mul (get_or h.factors k 0)) (zeros k l) ∙ gf_mul-zero (get_or h.factors k 0))
 
 -- another vector that is 1 at one place is 0 where this one is 1
@@ -162,3 +159,16 @@ is_repeat-combination session packets packet plain sizes own size =
             absurd (omega (arith, nothing, one-at packet.coefs j own.unit.1))
       ],
     )
+
+-- and new exactly where it is no repeat
+pub is_new-repeat : (session : SessionData) (packets : List Packet) (packet : Packet) → All (IsPlain session) packets
+    → All (λ p. length p.coefs ≡ session.m) packets → IsPlain session packet → length packet.coefs ≡ session.m
+    → is_new packets packet ≡ not (is_repeat packets packet)
+is_new-repeat session packets packet plain sizes own size =
+    let both = is_repeat-combination session packets packet plain sizes own size in
+    elim (cases_Bool (is_repeat packets packet)) [
+      | inl repeat ↦
+          false_from_ne_true (is_new packets packet) (λ fresh. (is_new-Decides packets packet).0 fresh (both.0 repeat))
+          ∙ ap not (sym repeat)
+      | inr none ↦ (is_new-Decides packets packet).1 (λ is. false≢true (sym none ∙ both.1 is)) ∙ ap not (sym none)
+    ]

@@ -1,5 +1,5 @@
 -- The known places are those of the received packets, and as many as the packets that are kept.
-use Rattle.std.proofs.Common.{ℕ, suc, zero, ◌≡◌, ◌≢◌, ◌<◌, ◌+◌, ◌*◌, ◌/◌, ◌%◌, ◌∙◌, ◌++◌, ◌∷◌, [], ◌==◌, ◌&&◌, ◌||◌, sym, ap, refl, Bool, true, false, cond, List, length, inl, inr, arith, append_assoc}
+use Rattle.std.proofs.Common.{ℕ, suc, zero, ◌≡◌, ◌≢◌, ◌<◌, ◌+◌, ◌*◌, ◌/◌, ◌%◌, ◌∙◌, ◌++◌, ◌∷◌, [], ◌==◌, ◌&&◌, ◌||◌, sym, ap, refl, Bool, true, false, cond, not, List, All, length, inl, inr, arith, append_assoc}
 use Rattle.std.specs.List.{list_any}
 use Rattle.std.specs.Str.{bytes_eq}
 use Rattle.std.proofs.lemmas.Bool.{false≢true, and_from, and_parts, false_from_ne_true, eq-eqb, eqb-true, cases_eq, or_left, or_right}
@@ -11,10 +11,13 @@ use Rattle.std.proofs.lemmas.Slice.Eq.{bytes_eq-Decides}
 use Rattle.std.proofs.lemmas.Nat.{div-add-mod', div-mul-add, mod-mul-add, mod_below}
 use Rattle.bats_model.specs.Session.{SessionData}
 use Rattle.bats_model.specs.Coded.{unit_vector}
-use Rattle.bats_model.specs.Plain.{IsUnitAt}
-use Rattle.bats_model.specs.Kept.{is_repeat, kept_after, kept_count}
+use Rattle.bats_model.specs.Plain.{IsUnitAt, IsPlain}
+use Rattle.bats_model.specs.Kept.{kept_count}
 use Rattle.bats_model.specs.declared.packet.Packet.{Packet}
 use Rattle.bats_model.proofs.UnitVectors.{one-at, zero-elsewhere}
+use Rattle.bats_model.proofs.NewPackets.{kept_count-push}
+use Rattle.bats_decode.specs.Repeats.{is_repeat}
+use Rattle.bats_decode.proofs.KeptPackets.{is_new-repeat}
 use Rattle.bats_decode.specs.Decoder.{is_known, known_places, is_of_place}
 
 -- 1 for a place that counts, and 1 for a packet that is no repeat
@@ -94,22 +97,18 @@ known_places-marked (x ∷ xs) (y ∷ ys) (suc place) h =
     (ap one_if (h.elsewhere 0 (omega arith))) (known_places-marked xs ys place (Marks-tail x y xs ys place h))
     ∙ ap (λ (n : ℕ). n + one_unless (is_known xs place)) (sym (known_places-cons x xs))
 
--- one more packet is kept unless it is a repeat
-kept_after-more : (earlier packets : List Packet) (packet : Packet)
-    → kept_after earlier (packets ++ packet ∷ []) ≡ kept_after earlier packets + one_unless (is_repeat (earlier ++ packets) packet)
-unfolding kept_after
-kept_after-more earlier [] packet =
-    let all : one_unless (is_repeat earlier packet) ≡ one_unless (is_repeat (earlier ++ []) packet) =
-    ap (λ (ps : List Packet). one_unless (is_repeat ps packet)) (sym (append-nil earlier)) in
-    omega (arith, all)
-kept_after-more earlier (p ∷ ps) packet =
-    let all : one_unless (is_repeat ((earlier ++ p ∷ []) ++ ps) packet) ≡ one_unless (is_repeat (earlier ++ p ∷ ps) packet) =
-    ap (λ (qs : List Packet). one_unless (is_repeat qs packet)) (append_assoc earlier (p ∷ []) ps) in
-    omega (arith, kept_after-more (earlier ++ p ∷ []) ps packet, all)
+one_unless-not : (b : Bool) → cond (not b) 1 0 ≡ one_unless b
+one_unless-not true = refl
+one_unless-not false = refl
 
-pub kept_count-more : (packets : List Packet) (packet : Packet)
+-- one plain packet more is kept unless it is a repeat
+pub kept_count-more : (session : SessionData) (packets : List Packet) (packet : Packet) → All (IsPlain session) packets
+    → All (λ p. length p.coefs ≡ session.m) packets → IsPlain session packet → length packet.coefs ≡ session.m
     → kept_count (packets ++ packet ∷ []) ≡ kept_count packets + one_unless (is_repeat packets packet)
-kept_count-more packets packet = kept_after-more [] packets packet
+kept_count-more session packets packet plain sizes own size =
+    kept_count-push packets packet
+    ∙ ap (λ (b : Bool). kept_count packets + cond b 1 0) (is_new-repeat session packets packet plain sizes own size)
+    ∙ ap (λ (n : ℕ). kept_count packets + n) (one_unless-not (is_repeat packets packet))
 
 -- a packet of a batch whose vector is 1 at a column, and the place of that batch and column
 pub record IsAt (session : SessionData) (packet : Packet) (j place : ℕ) : Type 0 where
@@ -207,9 +206,10 @@ places-more session packets packet old new j place at marks h q =
     ]
 
 pub AreCounted-more : (session : SessionData) (packets : List Packet) (packet : Packet) (old new : List Bool) (j place : ℕ)
+    → All (IsPlain session) packets → All (λ p. length p.coefs ≡ session.m) packets → IsPlain session packet
     → IsAt session packet j place → Marks old new place → AreCounted session packets old
     → AreCounted session (packets ++ packet ∷ []) new
-AreCounted-more session packets packet old new j place at marks h =
+AreCounted-more session packets packet old new j place plain sizes own at marks h =
     let repeat : is_known old place ≡ is_repeat packets packet =
     h.places place ∙ sym (is_repeat-place session packets packet j place at) in
     record {
@@ -217,5 +217,5 @@ AreCounted-more session packets packet old new j place at marks h =
       kept = known_places-marked old new place marks
           ∙ ap (λ (b : Bool). known_places old + one_unless b) repeat
           ∙ ap (λ (n : ℕ). n + one_unless (is_repeat packets packet)) h.kept
-          ∙ sym (kept_count-more packets packet);
+          ∙ sym (kept_count-more session packets packet plain sizes own at.size);
     }

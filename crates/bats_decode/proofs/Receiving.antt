@@ -8,7 +8,7 @@ use Rattle.bats_model.specs.Session.{SessionData, IsSession}
 use Rattle.bats_model.specs.Symbol.{symbol_byte}
 use Rattle.bats_model.specs.Agreement.{IsFile, Agrees, IsSameSymbol}
 use Rattle.bats_model.specs.Plain.{IsSymbol, IsPlain, IsUnitAt}
-use Rattle.bats_model.specs.Kept.{kept_after}
+use Rattle.bats_model.specs.Kept.{new_after}
 use Rattle.bats_model.specs.declared.packet.Packet.{Packet}
 use Rattle.bats_model.proofs.PlainAgreement.{Agrees-plain}
 use Rattle.bats_decode.specs.Decoder.{DecoderData, StandsFor, Fits, is_known, known_places}
@@ -170,7 +170,7 @@ StandsFor-at session packets d e fits counted plain vectors places =
 
 -- a decoder that has received nothing
 pub StandsFor-empty : (d : DecoderData) → d.known ≡ [] → d.contradicted ≡ false → d.packets ≡ 0 → StandsFor [] d
-unfolding kept_after
+unfolding new_after
 StandsFor-empty d known consistent none =
     let unknown : (q : ℕ) → is_known d.known q ≡ false = λ q. ap (λ (ks : List Bool). is_known ks q) known in
     record {
@@ -226,7 +226,7 @@ StandsFor-more packets packet old new j place e taken agrees n plain at marks h 
     StandsFor-at s (packets ++ packet ∷ []) new e all
     (omega (arith, n, h.counted, length_push packets packet)) (All-push (IsPlain s) packets packet h.plain plain)
     (All-push (λ (p : Packet). length p.coefs ≡ s.m) packets packet h.vectors at.size)
-    (AreCounted-more s packets packet old.known new.known j place at marks (counted-by packets old h))
+    (AreCounted-more s packets packet old.known new.known j place h.plain h.vectors plain at marks (counted-by packets old h))
 
 -- a plain packet was received
 pub StandsFor-offered : (packets : List Packet) (packet : Packet) (old mid new : DecoderData) (j place : ℕ) (coefs payload : List ℕ)

@@ -10,6 +10,7 @@ use Rattle.bats_model.specs.Bytes.{AreBytes}
 use Rattle.bats_model.specs.Agreement.{IsFile, AgreesWithAll, IsSameSymbol}
 use Rattle.bats_model.specs.RightAnswer.{IsOnlyFile, NoFileAgrees, IsFirstOpen}
 use Rattle.bats_model.specs.declared.packet.Packet.{Packet}
+use Rattle.bats_model.proofs.Files.{same-files}
 use Rattle.bats_decode.specs.Decoder.{DecoderData, StandsFor, Fits, is_known}
 
 -- two lists have the same bytes
@@ -29,19 +30,6 @@ pub NoFileAgrees-contradicted : (packets : List Packet) (d : DecoderData) → St
 NoFileAgrees-contradicted packets d h e = record {
   none = λ file a. false≢true (sym (Fits-agreeing packets d file h a).consistent ∙ e);
 }
-
--- files that have the same symbols are the same
-same-files : (session : SessionData) (one other : List ℕ) → 0 < session.t → length one ≡ session.file_length
-    → length other ≡ session.file_length
-    → ((s : ℕ) → s < symbols_of session → IsSameSymbol session one other s) → one ≡ other
-same-files session one other some k l same =
-    let t = session.t in
-    let covered : session.file_length ≤ symbols_of session * t = (div_ceil_times session.file_length t some).0 in
-    ext_get_or 0 one other (k ∙ sym l) (λ i b.
-    let place : i / t * t + i % t ≡ i = div-add-mod' i t in
-    ap (λ (n : ℕ). get_or one n 0) (sym place)
-    ∙ same (i / t) (div_below i t (symbols_of session) some (omega arith)) (i % t) (mod_below i t some)
-    ∙ ap (λ (n : ℕ). get_or other n 0) place)
 
 pub IsOnlyFile-known : (packets : List Packet) (d : DecoderData) (file : List ℕ) → StandsFor packets d → 0 < d.session.t
     → d.contradicted ≡ false → HaveSameBytes file d.file → length file ≡ d.session.file_length → AreBytes file

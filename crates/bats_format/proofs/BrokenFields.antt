@@ -5,13 +5,15 @@ use Rattle.std.specs.Option.{option_map}
 use Rattle.std.proofs.Math.Seq.{take-append_seam}
 use Rattle.std.proofs.lemmas.Bool.Decides.{nat_tests}
 use Rattle.std.proofs.lemmas.List.{length-append, length-take, length-drop, take-append-drop, get_or-append-add}
+use Rattle.std.proofs.lemmas.List.Elements.{All-from_get_or}
+use Rattle.bats_model.specs.Bytes.{AreBytes}
 use Rattle.bats_model.specs.Session.{SessionData, IsSession}
 use Rattle.bats_model.specs.Records.{header_record, header_tag}
 use Rattle.bats_model.specs.Refusal.{HasFront, first_broken, header_refusal}
 use Rattle.bats_model.specs.declared.item.Item.{Item}
 use Rattle.bats_model.specs.declared.read_end.HeaderField.{HeaderField}
 use Rattle.bats_model.specs.declared.read_end.ReadEnd.TheVariants as ends
-use Rattle.bats_format.proofs.Headers.{KeepsRules, KeepsRules-from_none, session_of, header_record-of_bytes, none-from_record, passed, pass, small-take}
+use Rattle.bats_format.proofs.Headers.{KeepsRules, KeepsRules-from_none, session_of, header_record-of_bytes, none-from_record, passed, pass, small-take, small-drop}
 use Rattle.bats_format.proofs.RecordLemmas.{length-header_record, header_record-begins, header_rest}
 use Rattle.bats_format.proofs.Refusals.{BeginsAs, front_begins}
 
@@ -28,8 +30,11 @@ pub AreSmall-rest : (front rest : List ℕ) → AreSmall (front ++ rest) → Are
 AreSmall-rest front rest small i =
     subst (λ (n : ℕ). n < 256) (get_or-append-add front rest i 0) (small (length front + i))
 
-IsSession-session_of : (bytes : List ℕ) → length bytes ≡ 32 → KeepsRules bytes → IsSession (session_of bytes)
-IsSession-session_of bytes count keeps = record {
+pub bytes-from_small : (bytes : List ℕ) → AreSmall bytes → AreBytes bytes
+bytes-from_small bytes small = All-from_get_or (λ item. item < 256) bytes 0 (λ i within. small i)
+
+IsSession-session_of : (bytes : List ℕ) → length bytes ≡ 32 → AreSmall bytes → KeepsRules bytes → IsSession (session_of bytes)
+IsSession-session_of bytes count small keeps = record {
   m_low = keeps.m_low;
   m_high = keeps.m_high;
   t_low = keeps.t_low;
@@ -37,6 +42,7 @@ IsSession-session_of bytes count keeps = record {
   table = let mode = keeps.mode in omega arith;
   symbols = keeps.symbols;
   seed = omega (arith, length-drop {A = ℕ});
+  seed_bytes = bytes-from_small (drop 16 bytes) (small-drop 16 bytes small);
 }
 
 -- the input begins with the header record of some session
@@ -53,7 +59,7 @@ header-of_bytes input long small none =
     record {
       session = session_of bytes;
       begins = record {
-        is_session = IsSession-session_of bytes count keeps;
+        is_session = IsSession-session_of bytes count (small-take 32 input small) keeps;
         more = drop 32 input;
         split = sym (take-append-drop 32 input) ∙ ap (λ (x : List ℕ). x ++ drop 32 input) (sym same);
       };

@@ -20,8 +20,8 @@ use Rattle.bats_format.proofs.Numbers.{bytes-four}
 use Rattle.bats_format.proofs.RecordLemmas.{length-header_record, length-packet_record, packet_record-begins, packet_rest, record_of-some}
 use Rattle.bats_format.proofs.PacketFiles.{IsPacketFile-header, IsPacketFile-more, NextRecord}
 use Rattle.bats_format.proofs.Refusals.{longest_front}
-use Rattle.bats_format.proofs.Headers.{small-take}
-use Rattle.bats_format.proofs.BrokenFields.{AreSmall, AreSmall-rest, HasHeader, header-from_none, none-from_front}
+use Rattle.bats_format.proofs.Headers.{small-take, small-drop}
+use Rattle.bats_format.proofs.BrokenFields.{AreSmall, AreSmall-rest, bytes-from_small, HasHeader, header-from_none, none-from_front}
 
 AreSmall-AreBytes : (bytes : List ℕ) → AreBytes bytes → AreSmall bytes
 AreSmall-AreBytes bytes h i = elim (cases_lt i (length bytes)) [
@@ -60,6 +60,9 @@ shape_in session bytes long small = record {
   batch = number-small (take 4 bytes) (small-take 4 bytes small);
   coefs = omega (arith, length-take {A = ℕ}, length-drop {A = ℕ});
   payload = omega (arith, length-take {A = ℕ}, length-drop {A = ℕ});
+  coef_bytes = bytes-from_small (take session.m (drop 4 bytes)) (small-take session.m (drop 4 bytes) (small-drop 4 bytes small));
+  payload_bytes = bytes-from_small (take session.t (drop session.m (drop 4 bytes)))
+      (small-take session.t (drop session.m (drop 4 bytes)) (small-drop session.m (drop 4 bytes) (small-drop 4 bytes small)));
 }
 
 packet_rest-in : (session : SessionData) (bytes : List ℕ) → 4 + session.m + session.t ≤ length bytes → AreSmall bytes

@@ -126,7 +126,7 @@ header_record-parts session = refl
 mode-of_byte : (byte : ℕ) → byte < 256 → cond (nat_le 128 byte) 128 0 + byte % 128 ≡ byte
 mode-of_byte byte small = grind (arith, nat_tests)
 
-small-drop : (n : ℕ) (bytes : List ℕ) → ((i : ℕ) → get_or bytes i 0 < 256) → (i : ℕ) → get_or (drop n bytes) i 0 < 256
+pub small-drop : (n : ℕ) (bytes : List ℕ) → ((i : ℕ) → get_or bytes i 0 < 256) → (i : ℕ) → get_or (drop n bytes) i 0 < 256
 small-drop n bytes small i = rw (get_or-drop n bytes i 0) (small (n + i))
 
 pub small-take : (n : ℕ) (bytes : List ℕ) → ((i : ℕ) → get_or bytes i 0 < 256) → (i : ℕ) → get_or (take n bytes) i 0 < 256

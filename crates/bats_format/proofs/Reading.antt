@@ -12,6 +12,7 @@ use Rattle.std.specs.Result.{IsErrAnd}
 use Rattle.bats_io.specs.Faults.{Rose}
 use Rattle.bats_io.specs.Streams.{InputState, IsRead}
 use Rattle.bats_io.proofs.ReadLemmas.{IsRead-after, IsTold-after}
+use Rattle.bats_model.specs.Bytes.{AreBytes}
 use Rattle.bats_model.specs.Session.{SessionData, IsSession}
 use Rattle.bats_model.specs.Records.{header_record, packet_record, header_tag, packet_tag}
 use Rattle.bats_model.specs.PacketFile.{IsItemAt, record_of, most_records}
@@ -655,15 +656,15 @@ written size old new e h =
 
 pub TakesItem-packet : {before after : InputState} {offset batch : ℕ} (session : SessionData) (number coefs payload : List ℕ)
     → to_be_bytes w32 batch ≡ number → batch < 2 ^ 32 → length coefs ≡ session.m → length payload ≡ session.t
-    → FillsPart before after offset (number ++ coefs ++ payload) (Ok tt)
+    → AreBytes coefs → AreBytes payload → FillsPart before after offset (number ++ coefs ++ payload) (Ok tt)
     → TakesItem before after session offset (packet_tag ∷ []) (items.Packet offset (record { batch = batch; coefs = coefs; payload = payload }))
 unfolding record_of packet_record
-TakesItem-packet {before} {after} {offset} {batch} session number coefs payload same fits a b p =
+TakesItem-packet {before} {after} {offset} {batch} session number coefs payload same fits a b small_coefs small_payload p =
     let filled = p.as_far in
     record {
       bytes = number ++ coefs ++ payload;
       taken = filled.read;
       record_is = ap (λ (front : List ℕ). packet_tag ∷ (front ++ coefs ++ payload)) (sym same);
-      place = (refl, record { batch = fits; coefs = a; payload = b });
+      place = (refl, record { batch = fits; coefs = a; payload = b; coef_bytes = small_coefs; payload_bytes = small_payload });
       no_fault = filled.no_fault;
     }

@@ -1,5 +1,6 @@
 ghost use Rattle.std.specs.Prelude.{ℕ, ◌≡◌, ◌≤◌, length};
 ghost use Rattle.std.specs.Int.{w32, to_be_bytes};
+ghost use Rattle.bats_model.specs.Bytes.{AreBytes};
 ghost use Rattle.bats_model.specs.Session.{IsSession};
 ghost use Rattle.bats_model.specs.PacketFile.{IsItemAt, record_of, most_records};
 ghost use Rattle.bats_model.specs.Records.{header_tag, packet_tag};
@@ -8,7 +9,7 @@ ghost use Rattle.bats_format.specs.Taking.{most_of_record, FirstIs, TakesFirst, 
 use crate::filling::{fill, fill_part, fill_three};
 use crate::header::{header_bytes, read_header};
 use bats_io::Source;
-use bats_model::{Item, Packet, ReadEnd, Session};
+use bats_model::{Bytes, Item, Packet, ReadEnd, Session};
 use byteorder::{BigEndian, ByteOrder};
 use std::alloc::Global;
 
@@ -117,6 +118,16 @@ fn number_in(bytes: &[u8; 4]) -> u32
     BigEndian::read_u32(bytes)
 }
 
+// The bytes of this memory, which is not copied.
+fn bytes_in(memory: Vec<u8>) -> Bytes
+    ensures value { result ≡ memory.items }
+    ensures bytes { AreBytes memory.items }
+{
+    let bytes = Bytes::from(memory);
+    let _bytes = bytes.as_slice();
+    bytes
+}
+
 // Reads what follows the first byte of a packet record, into M and T bytes of memory.
 fn take_packet<S: Source>(
     source: &mut S,
@@ -139,8 +150,8 @@ fn take_packet<S: Source>(
         at,
         packet: Packet {
             batch: number_in(&number),
-            coefs: coefs.into(),
-            payload: payload.into(),
+            coefs: bytes_in(coefs),
+            payload: bytes_in(payload),
         },
     })
 }

@@ -1,5 +1,10 @@
 pub mod SystematicBatches
+pub mod EachBatch
+pub mod SymbolValues
+pub mod NewPackets
 pub mod RightAnswers
+pub mod Files
+pub mod EachList
 pub mod UnitVectors
 pub mod PlainAgreement
 mod Examples

@@ -11,6 +11,7 @@ use Rattle.gf_core.proofs.ProductLemmas.{zero-gf_mul, one-gf_mul}
 use Rattle.bats_model.specs.Session.{SessionData, symbols_of}
 use Rattle.bats_model.specs.Symbol.{symbol_byte}
 use Rattle.bats_model.specs.Batch.{BatchData, batch_of, systematic_batch_of, is_systematic_batch, degree_of, entry_of, contributor_of, entries_by, identity_entry}
+use Rattle.bats_model.specs.Values.{coded_value, combined_value}
 use Rattle.bats_model.specs.Coded.{coded_byte, coded_term}
 use Rattle.bats_model.specs.Agreement.{IsFile, Agrees, combined_byte, combined_term}
 use Rattle.bats_model.specs.Plain.{IsUnitAt, IsSymbol}
@@ -22,7 +23,7 @@ use Rattle.bats_model.proofs.UnitVectors.{one-at, zero-elsewhere}
 pub combined_byte-unit : (session : SessionData) (file : List ℕ) (number : ℕ) (coefs : List ℕ) (j c : ℕ)
     → IsUnitAt coefs j → length coefs ≡ session.m
     → combined_byte session file number coefs c ≡ coded_byte session file (batch_of session number) j c
-unfolding combined_byte
+unfolding combined_value
 combined_byte-unit session file number coefs j c h l =
     let byte : ℕ → ℕ = λ i. coded_byte session file (batch_of session number) i c in
     gf_sum-one session.m (combined_term session file number coefs c) j (omega (arith, h.within))
@@ -73,7 +74,7 @@ symbol_byte-past session file s c h past some =
 pub coded_byte-systematic : (session : SessionData) (file : List ℕ) (number j c : ℕ) → IsFile session file
     → is_systematic_batch session number ≡ true → j < session.m → 0 < session.t
     → coded_byte session file (batch_of session number) j c ≡ symbol_byte session file (number * session.m + j) c
-unfolding coded_byte
+unfolding coded_value
 coded_byte-systematic session file number j c f h l some =
     let batch : BatchData = systematic_batch_of session number in
     let term : ℕ → ℕ = coded_term session file batch j c in

@@ -1,10 +1,11 @@
 -- Agreement of a file with received packets: which files a list of packets leaves possible.
 use Rattle.std.specs.Prelude.{ℕ, ◌≡◌, ◌<◌, List, All, length, slice_index}
-use Rattle.gf_core.specs.Field.{gf_mul, gf_sum}
+use Rattle.gf_core.specs.Field.{gf_mul}
 use Rattle.bats_model.specs.Bytes.{AreBytes}
 use Rattle.bats_model.specs.Session.{SessionData}
 use Rattle.bats_model.specs.Symbol.{symbol_byte}
 use Rattle.bats_model.specs.Batch.{batch_of}
+use Rattle.bats_model.specs.Values.{combined_value}
 use Rattle.bats_model.specs.Coded.{coded_byte}
 use Rattle.bats_model.specs.declared.packet.Packet.{Packet}
 
@@ -19,8 +20,8 @@ combined_term session file number coefs c j =
     gf_mul (slice_index coefs j) (coded_byte session file (batch_of session number) j c)
 
 -- byte c of the combination of a batch's coded packets: the sum of the coefficients times their bytes
-unfoldable pub combined_byte : SessionData → List ℕ → ℕ → List ℕ → ℕ → ℕ
-combined_byte session file number coefs c = gf_sum session.m (combined_term session file number coefs c)
+abbrev pub combined_byte : SessionData → List ℕ → ℕ → List ℕ → ℕ → ℕ
+combined_byte session file number coefs c = combined_value session number coefs (λ s. symbol_byte session file s c)
 
 -- the packet's payload is, in each column, the combination that its coefficient vector says. Bytes past the file's
 -- end count as zeros, so a packet that contradicts them agrees with no file.

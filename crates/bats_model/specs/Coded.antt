@@ -1,10 +1,11 @@
--- Coded packets: contributors times generator.
+-- Coded packets of a file: contributors times generator.
 use Rattle.std.specs.Prelude.{ℕ, ◌==◌, if◌then◌else◌, List, map}
 use Rattle.std.specs.List.{range_with_len}
-use Rattle.gf_core.specs.Field.{gf_mul, gf_sum}
+use Rattle.gf_core.specs.Field.{gf_mul}
 use Rattle.bats_model.specs.Session.{SessionData}
 use Rattle.bats_model.specs.Symbol.{symbol_byte}
-use Rattle.bats_model.specs.Batch.{BatchData, degree_of, contributor_of, entry_of}
+use Rattle.bats_model.specs.Batch.{BatchData, contributor_of, entry_of}
+use Rattle.bats_model.specs.Values.{coded_value}
 
 -- what contributor k adds to byte c of coded packet j
 abbrev pub coded_term : SessionData → List ℕ → BatchData → ℕ → ℕ → ℕ → ℕ
@@ -13,8 +14,8 @@ coded_term session file batch j c k =
 
 -- byte c of coded packet j of a batch: the sum, over the contributors, of the generator's entry times the
 -- contributor's byte
-unfoldable pub coded_byte : SessionData → List ℕ → BatchData → ℕ → ℕ → ℕ
-coded_byte session file batch j c = gf_sum (degree_of batch) (coded_term session file batch j c)
+abbrev pub coded_byte : SessionData → List ℕ → BatchData → ℕ → ℕ → ℕ
+coded_byte session file batch j c = coded_value batch j (λ s. symbol_byte session file s c)
 
 -- the payload of coded packet j
 unfoldable pub coded_payload : SessionData → List ℕ → BatchData → ℕ → List ℕ

@@ -1,38 +1,64 @@
--- Kept packets: those of a list that are no repeats of packets before them. For packets of systematic batches, whose
--- vectors are 1 at one place and 0 elsewhere, a vector is a combination of earlier ones exactly where it is one of them.
-use Rattle.std.specs.Prelude.{ℕ, ◌≡◌, ◌<◌, ◌+◌, ◌==◌, ◌&&◌, if◌then◌else◌, Bool, List, [], ◌∷◌, ◌++◌, map, filter, length, slice_index, slice_index_or}
-use Rattle.std.specs.List.{list_any}
+-- New packets, kept packets and packets that contradict these. Combinations are those of gf_core, so coefficients are
+-- told apart as bytes.
+use Rattle.std.specs.Prelude.{ℕ, ◌≡◌, ◌==◌, not, if◌then◌else◌, Bool, List, [], ◌∷◌, ◌++◌, map, filter, length, take, slice_get, Option, Some}
 use Rattle.std.specs.Str.{bytes_eq}
-use Rattle.gf_core.specs.Field.{gf_mul, gf_sum}
-use Rattle.bats_model.specs.Bytes.{AreBytes}
+use Rattle.gf_core.specs.Bytes.{some_bytes}
+use Rattle.gf_core.specs.Combinations.{combination, IsInSpan}
 use Rattle.bats_model.specs.declared.packet.Packet.{Packet}
 
--- both packets are of one batch and have one coefficient vector
-abbrev pub is_same_vector : Packet → Packet → Bool
-is_same_vector one other = one.batch == other.batch && bytes_eq one.coefs other.coefs
+-- ---- new packets
 
--- some earlier packet has the packet's batch and coefficient vector
-abbrev pub is_repeat : List Packet → Packet → Bool
-is_repeat earlier packet = list_any (λ other. is_same_vector other packet) earlier
+-- the vector is a combination of these vectors: there are factors, one byte for each, whose products sum to it
+abbrev pub IsCombination : List (List ℕ) → List ℕ → Type 0
+IsCombination vectors vector = IsInSpan (length vector) vectors vector
 
--- how many of the packets are no repeats, where the earlier ones came before them
-unfoldable pub kept_after : List Packet → List Packet → ℕ
-kept_after earlier [] = 0
-kept_after earlier (packet ∷ packets) =
-    (if is_repeat earlier packet then 0 else 1) + kept_after (earlier ++ packet ∷ []) packets
-
--- how many packets of a list are kept
-abbrev pub kept_count : List Packet → ℕ
-kept_count packets = kept_after [] packets
+-- whether it is one; no factors are ever tried
+abbrev pub is_combination : List (List ℕ) → List ℕ → Bool
+is_combination vectors vector =
+    some_bytes (length vectors) (λ factors. bytes_eq (combination (length vector) factors vectors) vector)
 
 -- the coefficient vectors of a batch's packets, in order
 abbrev pub vectors_of : ℕ → List Packet → List (List ℕ)
 vectors_of batch packets = map (λ packet. packet.coefs) (filter (λ packet. packet.batch == batch) packets)
 
--- the vector is a combination of these vectors: there are factors, one byte for each, whose products sum to it
-pub record IsCombination (vectors : List (List ℕ)) (vector : List ℕ) : Type 0 where
-  pub factors : List ℕ
-  pub bytes : AreBytes factors
-  pub size : length factors ≡ length vectors
-  pub sums : (i : ℕ) → i < length vector → slice_index vector i
-      ≡ gf_sum (length vectors) (λ k. gf_mul (slice_index factors k) (slice_index (slice_index_or vectors k []) i))
+-- whether the packet is new after the earlier ones: its vector is no combination of those of its batch
+abbrev pub is_new : List Packet → Packet → Bool
+is_new earlier packet = not (is_combination (vectors_of packet.batch earlier) packet.coefs)
+
+-- the new ones among the packets, where the earlier ones came before them
+unfoldable pub new_after : List Packet → List Packet → List Packet
+new_after earlier [] = []
+new_after earlier (packet ∷ packets) =
+    (if is_new earlier packet then packet ∷ [] else []) ++ new_after (earlier ++ packet ∷ []) packets
+
+-- ---- kept packets
+
+-- the kept packets of a batch: its new ones, in their order, as they came
+abbrev pub kept_of : ℕ → List Packet → List Packet
+kept_of batch packets = filter (λ packet. packet.batch == batch) (new_after [] packets)
+
+-- how many packets of a list are kept
+abbrev pub kept_count : List Packet → ℕ
+kept_count packets = length (new_after [] packets)
+
+-- ---- contradictions
+
+-- a packet as one row: its coefficients, and behind them its payload
+abbrev pub packet_row : Packet → List ℕ
+packet_row packet = packet.coefs ++ packet.payload
+
+-- one list of factors gives the packet's vector and its payload
+abbrev pub Follows : List Packet → Packet → Type 0
+Follows kept packet = IsCombination (map packet_row kept) (packet_row packet)
+
+-- the vector is a combination of the kept ones, and the payload isn't the same combination of theirs
+pub record Contradicts (kept : List Packet) (packet : Packet) : Type 0 where
+  pub combination : IsCombination (map (λ other. other.coefs) kept) packet.coefs
+  pub differs : ¬ Follows kept packet
+
+-- some packet of the list contradicts the kept packets of its batch before it
+pub record HasContradiction (packets : List Packet) : Type 0 where
+  pub at : ℕ
+  pub packet : Packet
+  pub stands : slice_get packets at ≡ Some packet
+  pub contradicts : Contradicts (kept_of packet.batch (take at packets)) packet

@@ -4,6 +4,7 @@ pub mod Symbol
 pub mod Key
 pub mod DegreeTable
 pub mod Batch
+pub mod Values
 pub mod Coded
 pub mod Agreement
 pub mod RightAnswer

@@ -1,6 +1,7 @@
 -- Packet files: which bytes stand for a session and a list of items. The definition has no reader: it says which bytes
 -- the records of the items are.
 use Rattle.std.specs.Prelude.{ℕ, ◌≡◌, ◌<◌, ◌≤◌, ◌+◌, ◌^◌, List, [], ◌∷◌, length, flat_map}
+use Rattle.bats_model.specs.Bytes.{AreBytes}
 use Rattle.bats_model.specs.Session.{SessionData, IsSession}
 use Rattle.bats_model.specs.Records.{header_record, packet_record}
 use Rattle.bats_model.specs.declared.packet.Packet.{Packet}
@@ -11,11 +12,13 @@ use Rattle.bats_model.specs.declared.item.Item.TheVariants as items
 abbrev pub most_records : ℕ
 most_records = 1048576
 
--- the packet has M coefficients and T payload bytes, and a batch number of four bytes
+-- the packet has M coefficients and T payload bytes, all of them bytes, and a batch number of four bytes
 pub record HasShape (session : SessionData) (packet : Packet) : Type 0 where
   pub batch : packet.batch < 2 ^ 32
   pub coefs : length packet.coefs ≡ session.m
   pub payload : length packet.payload ≡ session.t
+  pub coef_bytes : AreBytes packet.coefs
+  pub payload_bytes : AreBytes packet.payload
 
 -- the record of an item: the session's one header, or the packet's record
 unfoldable pub record_of : SessionData → Item → List ℕ

@@ -43,3 +43,9 @@ AreAlike (File file) (File other) = file ≡ other
 AreAlike Inconsistent Inconsistent = Unit {0}
 AreAlike (NeedMore at_symbol _ _) (NeedMore at_other _ _) = at_symbol ≡ at_other
 AreAlike _ _ = ⊥
+
+-- some answer is right for these packets, and each other right one is like it
+pub record HasOneAnswer (session : SessionData) (packets : List Packet) : Type 0 where
+  pub answer : Answer
+  pub right : IsRightAnswer session packets answer
+  pub others : (other : Answer) → IsRightAnswer session packets other → AreAlike answer other

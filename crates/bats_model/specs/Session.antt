@@ -1,6 +1,7 @@
 -- A session: what source, relays and sink agree on.
 use Rattle.std.specs.Prelude.{ℕ, ◌≡◌, ◌%◌, ◌≢◌, ◌≤◌, ◌<◌, Bool, List, length}
 use Rattle.std.specs.Int.{div_ceil}
+use Rattle.bats_model.specs.Bytes.{AreBytes}
 
 -- the parameters of a session: packets of a batch, bytes of a symbol, bytes of the file, number of the degree
 -- table, whether the first batches are systematic, and the seed
@@ -24,7 +25,7 @@ symbols_of session = symbol_count session.file_length session.t
 abbrev pub IsPadded : SessionData → Type 0
 IsPadded session = session.file_length % session.t ≢ 0
 
--- the parameters are within the limits
+-- the parameters are within the limits, and the seed is of bytes
 pub record IsSession (session : SessionData) : Type 0 where
   pub m_low : 1 ≤ session.m
   pub m_high : session.m ≤ 32
@@ -33,3 +34,4 @@ pub record IsSession (session : SessionData) : Type 0 where
   pub table : session.table < 2
   pub symbols : symbols_of session ≤ 4096
   pub seed : length session.seed ≡ 16
+  pub seed_bytes : AreBytes session.seed

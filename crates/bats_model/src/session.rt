@@ -1,4 +1,5 @@
 ghost use Rattle.std.specs.Prelude.{◌≡◌, ◌≢◌, ◌⊎◌, ℕ, ◌<◌, ◌≤◌, ◌↔◌, IsTrue, IfOk, IsErrOf};
+ghost use Rattle.bats_model.specs.Bytes.{AreBytes};
 
 use std::marker::Model;
 
@@ -68,6 +69,15 @@ impl Model for Session {
     } };
 }
 
+// The same seed, whose entries are told to be bytes.
+fn bytes_of(seed: &[u8; 16]) -> [u8; 16]
+    ensures same { result ≡ seed.now }
+    ensures bytes { AreBytes seed.now }
+{
+    let _bytes = seed.as_slice();
+    *seed
+}
+
 impl Session {
     ghost use Rattle.bats_model.specs.Session.{IsSession, IsPadded, symbols_of, symbol_count};
 
@@ -116,7 +126,7 @@ impl Session {
             file_length: length,
             table,
             systematic,
-            seed,
+            seed: bytes_of(&seed),
         })
     }
 

@@ -5,6 +5,7 @@ pub mod ProductLemmas
 pub mod PowerLemmas
 pub mod InverseLemmas
 pub mod RowLemmas
+pub mod SearchLemmas
 pub mod LinearRows
 pub mod CombinationLemmas
 mod Examples

@@ -3,6 +3,7 @@ use Rattle.std.proofs.lemmas.List.FromFn.{fill_by_all}
 use Rattle.gf_core.specs.Field.{gf_add, gf_mul, gf_sum}
 use Rattle.bats_model.specs.Batch.{entry_of, contributor_of}
 use Rattle.bats_model.specs.Symbol.{symbol_byte}
+use Rattle.bats_model.specs.Values.{coded_value}
 use Rattle.bats_model.specs.Coded.{coded_byte, coded_payload, coded_term}
 use Rattle.gf_core.proofs.RowLemmas.{get_or-add_scaled_row}
 use Rattle.bats_encoder.proofs.encoder.fill_payload.Goals as goal
@@ -29,7 +30,7 @@ loop-k-preserved c i h =
     ∙ sym sum
 
 pub returns : goal.returns
-unfolding coded_payload coded_byte
+unfolding coded_payload coded_value
 returns c =
     let all : c.loop-k.k ≡ length c.args.batch.now.contributors = omega arith in
     let long : length c.loop-k.payload ≡ c.args.session.now.t = omega arith in

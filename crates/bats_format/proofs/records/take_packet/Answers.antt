@@ -1,4 +1,5 @@
-use Rattle.std.proofs.Common.{◌≡◌, length, arith, ap, ◌∙◌}
+use Rattle.std.proofs.Common.{◌≡◌, length, arith, ap, sym, subst, ◌∙◌}
+use Rattle.bats_model.specs.Bytes.{AreBytes}
 use Rattle.bats_format.proofs.Reading.{TakesBody-packet_exit, TakesItem-packet, written}
 use Rattle.bats_format.proofs.records.take_packet.Goals as goal
 
@@ -12,12 +13,14 @@ returns-in_err-fill_three g c =
 
 pub returns : goal.returns
 returns g c =
-    let coefs : c.into.result ≡ c.fill_three.new.second =
-    c.into.ensures ∙ written _ c.args.coefs.items c.fill_three.new.second c.args.coefs.ok.0 (c.fill_three.auto.second ∙ ap length c.deref_mut.ensures.value) in
-    let payload : c.into-2.result ≡ c.fill_three.new.third =
-    c.into-2.ensures ∙ written _ c.args.payload.items c.fill_three.new.third c.args.payload.ok.0 (c.fill_three.auto.third ∙ ap length c.deref_mut-2.ensures.value) in
+    let coefs : c.bytes_in.result ≡ c.fill_three.new.second =
+    c.bytes_in.ensures.value ∙ written _ c.args.coefs.items c.fill_three.new.second c.args.coefs.ok.0 (c.fill_three.auto.second ∙ ap length c.deref_mut.ensures.value) in
+    let payload : c.bytes_in-2.result ≡ c.fill_three.new.third =
+    c.bytes_in-2.ensures.value ∙ written _ c.args.payload.items c.fill_three.new.third c.args.payload.ok.0 (c.fill_three.auto.third ∙ ap length c.deref_mut-2.ensures.value) in
     rw (coefs, payload) (TakesItem-packet c.args.session.now c.fill_three.new.first c.fill_three.new.second c.fill_three.new.third
     c.number_in.ensures c.number_in.type_inv
     (omega (arith, c.fill_three.auto.second, ap length c.deref_mut.ensures.value))
     (omega (arith, c.fill_three.auto.third, ap length c.deref_mut-2.ensures.value))
+    (subst AreBytes (sym c.bytes_in.ensures.value ∙ coefs) c.bytes_in.ensures.bytes)
+    (subst AreBytes (sym c.bytes_in-2.ensures.value ∙ payload) c.bytes_in-2.ensures.bytes)
     c.in_ok-fill_three.ensures)
