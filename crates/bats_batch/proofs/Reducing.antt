@@ -1,5 +1,5 @@
 -- Elimination of a row by triangular rows, one after another, and the multiple that is 1 at a place.
-use Rattle.std.proofs.Common.{ℕ, ◌≡◌, ◌<◌, ◌+◌, ◌∙◌, List, [], length, get_or, take, sym, ap, subst, arith}
+use Rattle.std.proofs.Common.{ℕ, ◌≡◌, ◌<◌, ◌+◌, ◌∙◌, List, [], length, get_or, take, sym, ap, subst, arith, lit<}
 use Rattle.std.proofs.lemmas.List.{length-take, get_or-take}
 use Rattle.std.proofs.lemmas.List.Elements.{All-nil, All-more, All-from_get_or}
 use Rattle.gf_core.specs.Bytes.{AreBytes}
@@ -11,7 +11,7 @@ use Rattle.gf_core.proofs.AddLemmas.{gf_add_self}
 use Rattle.gf_core.proofs.ProductLemmas.{gf_mul-zero, gf_mul-one, gf_mul_comm}
 use Rattle.gf_core.proofs.RowLemmas.{byte_at, length-add_scaled_row, length-scaled_row, get_or-add_scaled_row, get_or-scaled_row, add_scaled_row-lt, row_sum_self, scaled_row-one, scaled_row-gf_mul}
 use Rattle.gf_core.proofs.CombinationLemmas.{row_sum_right_comm, IsInSpan-zeros, IsInSpan-add_scaled, IsInSpan-each, pivot-lt}
-use Rattle.bats_batch.specs.Reduction.{Reduces, MadeOne}
+use Rattle.bats_batch.specs.steps.Reduction.{Reduces, IsNormalized}
 
 -- ---- a row is reduced by the rows before i
 
@@ -99,17 +99,19 @@ Reduces-more width rows pivots old new i are triangular size inside state = Redu
 
 -- ---- a row is made 1 at a place
 
-pub MadeOne-same : (pivot : ℕ) (row : List ℕ) → get_or row pivot 0 ≡ 1 → MadeOne pivot row row
-MadeOne-same pivot row one = record {
+pub IsNormalized-same : (pivot : ℕ) (row : List ℕ) → get_or row pivot 0 ≡ 1 → IsNormalized pivot row row
+IsNormalized-same pivot row one = record {
   factor = 1;
+  byte = lit< tt;
   multiple = sym (scaled_row-one row);
   back = sym (ap (λ f. scaled_row f row) one ∙ scaled_row-one row);
   one = one;
 }
 
-pub MadeOne-scaled : (pivot : ℕ) (row : List ℕ) (factor : ℕ) → AreBytes row → factor < 256 → gf_mul (get_or row pivot 0) factor ≡ 1 → MadeOne pivot row (scaled_row factor row)
-MadeOne-scaled pivot row factor bytes below product = record {
+pub IsNormalized-scaled : (pivot : ℕ) (row : List ℕ) (factor : ℕ) → AreBytes row → factor < 256 → gf_mul (get_or row pivot 0) factor ≡ 1 → IsNormalized pivot row (scaled_row factor row)
+IsNormalized-scaled pivot row factor bytes below product = record {
   factor = factor;
+  byte = below;
   multiple = λ i. scaled_row factor row;
   back = sym (sym (scaled_row-gf_mul (get_or row pivot 0) factor row below bytes) ∙ (ap (λ f. scaled_row f row) product ∙ scaled_row-one row));
   one = get_or-scaled_row factor row pivot ∙ (gf_mul_comm factor (get_or row pivot 0) below (byte_at row pivot bytes) ∙ product);

@@ -1,3 +1,2 @@
-pub mod Reduction
-pub mod Entries
 pub mod Basis
+pub mod steps

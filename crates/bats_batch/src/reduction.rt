@@ -3,8 +3,8 @@ ghost use Rattle.std.specs.Prelude.{◌≡◌, ◌≢◌, ◌+◌, ◌<◌, ◌�
 ghost use Rattle.gf_core.specs.Bytes.{AreBytes};
 ghost use Rattle.gf_core.specs.Rows.{add_scaled_row};
 ghost use Rattle.gf_core.specs.Triangular.{AreRows, AreTriangular};
-ghost use Rattle.bats_batch.specs.Reduction.{Reduces, MadeOne, IsFirst};
-ghost use Rattle.bats_batch.specs.Entries.{pivots_of, rows_of};
+ghost use Rattle.bats_batch.specs.steps.Reduction.{Reduces, IsNormalized, IsLeading};
+ghost use Rattle.bats_batch.specs.steps.Entries.{pivots_of, rows_of};
 
 use crate::entry::Entry;
 use gf_core::Gf;
@@ -13,7 +13,7 @@ use std::sync::ledger::Ledger;
 
 // The place of the first byte that isn't 0.
 pub(crate) fn first_nonzero(row: &[u8]) -> Option<usize>
-    ensures { MatchOption result (All (λ byte. byte ≡ 0) row.now) (IsFirst row.now) }
+    ensures { MatchOption result (All (λ byte. byte ≡ 0) row.now) (IsLeading row.now) }
 {
     for (place, byte) in row.iter().enumerate() {
         if *byte != 0 {
@@ -37,6 +37,8 @@ fn clear_pivot<C: Ledger, L: Ledger>(
     ensures row { row.new ≡ add_scaled_row row.old (slice_index row.old pivot) reduced.now }
     ensures coef_steps { coef_steps.new ≤ coef_steps.old + 1 }
     ensures steps { steps.new ≤ steps.old + 1 }
+    ensures coef_steps_rise { coef_steps.old ≤ coef_steps.new }
+    ensures steps_rise { steps.old ≤ steps.new }
 {
     let factor = row[pivot];
     if factor == 0 {
@@ -59,6 +61,8 @@ pub(crate) fn reduce_by<C: Ledger, L: Ledger>(
     ensures row { Reduces (length row.old) (rows_of entries.now) (pivots_of entries.now) row.old row.new }
     ensures coef_steps { coef_steps.new ≤ coef_steps.old + length entries.now }
     ensures steps { steps.new ≤ steps.old + length entries.now }
+    ensures coef_steps_rise { coef_steps.old ≤ coef_steps.new }
+    ensures steps_rise { steps.old ≤ steps.new }
 {
     for entry in entries {
         clear_pivot(row, entry.pivot, &entry.row, coef_steps, steps);
@@ -75,9 +79,11 @@ pub(crate) fn make_one<C: Ledger, L: Ledger>(
     requires bytes { AreBytes row.old }
     requires pivot { pivot < length row.old }
     requires entry { slice_index row.old pivot ≢ 0 }
-    ensures row { MadeOne pivot row.old row.new }
+    ensures row { IsNormalized pivot row.old row.new }
     ensures coef_steps { coef_steps.new ≤ coef_steps.old + 1 }
     ensures steps { steps.new ≤ steps.old + 1 }
+    ensures coef_steps_rise { coef_steps.old ≤ coef_steps.new }
+    ensures steps_rise { steps.old ≤ steps.new }
 {
     let entry = Gf::new(row[pivot]);
     if entry == Gf::ONE {

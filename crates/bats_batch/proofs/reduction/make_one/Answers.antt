@@ -2,13 +2,13 @@ use Rattle.std.proofs.Common.{◌≡◌, ◌<◌, ◌∙◌, sym, ap, subst, ari
 use Rattle.std.proofs.lemmas.Bool.{eqb-true}
 use Rattle.gf_core.specs.Field.{gf_mul}
 use Rattle.gf_core.proofs.ProductLemmas.{gf_mul-zero}
-use Rattle.bats_batch.specs.Reduction.{MadeOne}
-use Rattle.bats_batch.proofs.Reducing.{MadeOne-same, MadeOne-scaled}
+use Rattle.bats_batch.specs.steps.Reduction.{IsNormalized}
+use Rattle.bats_batch.proofs.Reducing.{IsNormalized-same, IsNormalized-scaled}
 use Rattle.bats_batch.proofs.reduction.make_one.Goals as goal
 
 pub returns-then-eq-clause-row : goal.returns-then-eq-clause-row
 returns-then-eq-clause-row g c =
-    MadeOne-same c.args.pivot c.args.row.now (sym c.new-entry.ensures ∙ eqb-true c.new-entry.result 1 (sym c.eq.ensures ∙ c.if-eq.true))
+    IsNormalized-same c.args.pivot c.args.row.now (sym c.new-entry.ensures ∙ eqb-true c.new-entry.result 1 (sym c.eq.ensures ∙ c.if-eq.true))
 
 pub scale_row-requires : goal.scale_row-requires
 scale_row-requires g c is_zero =
@@ -18,6 +18,6 @@ scale_row-requires g c is_zero =
 pub returns-clause-row : goal.returns-clause-row
 returns-clause-row g c =
     let below : c.inv-factor.result < 256 = subst (λ n. n < 256) c.byte-byte.ensures (omega (arith, c.byte-byte.type_inv)) in
-    subst (MadeOne c.args.pivot c.args.row.now) (sym c.scale_row.ensures)
-    (MadeOne-scaled c.args.pivot c.args.row.now c.inv-factor.result c.requires.bytes below
+    subst (IsNormalized c.args.pivot c.args.row.now) (sym c.scale_row.ensures)
+    (IsNormalized-scaled c.args.pivot c.args.row.now c.inv-factor.result c.requires.bytes below
     (ap (λ e. gf_mul e c.inv-factor.result) (sym c.new-entry.ensures) ∙ c.inv-factor.ensures))

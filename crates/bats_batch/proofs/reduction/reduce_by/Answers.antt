@@ -4,8 +4,8 @@ use Rattle.std.proofs.lemmas.List.Elements.{All-from_get_or}
 use Rattle.gf_core.specs.Rows.{add_scaled_row}
 use Rattle.gf_core.proofs.CombinationLemmas.{pivot-lt}
 use Rattle.bats_batch.specs.declared.entry.Entry.{Entry}
-use Rattle.bats_batch.specs.Entries.{pivots_of, rows_of}
-use Rattle.bats_batch.specs.Reduction.{Reduces}
+use Rattle.bats_batch.specs.steps.Entries.{pivots_of, rows_of}
+use Rattle.bats_batch.specs.steps.Reduction.{Reduces}
 use Rattle.bats_batch.proofs.Reducing.{Reduces-none, Reduces-more}
 use Rattle.bats_batch.proofs.reduction.reduce_by.Goals as goal
 
@@ -23,6 +23,8 @@ loop-entry-init g c = record {
   reduced = Reduces-none (rows_of c.args.entries.now) c.args.row.now (All-from_get_or (λ byte. byte < 256) c.args.row.now 0 (λ k h. omega (arith, c.type_inv.row k)));
   coef_steps = omega arith;
   steps = omega arith;
+  coef_steps_rise = omega arith;
+  steps_rise = omega arith;
 }
 
 pub clear_pivot-requires-clause-length : goal.clear_pivot-requires-clause-length
@@ -64,4 +66,6 @@ loop-entry-preserved g c =
           (λ k. length c.args.row.now) (inside entries i h) c.loop-entry.invariant.reduced);
       coef_steps = omega arith;
       steps = omega arith;
+      coef_steps_rise = omega arith;
+      steps_rise = omega arith;
     }

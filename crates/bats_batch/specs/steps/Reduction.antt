@@ -13,14 +13,15 @@ pub record Reduces (width : ℕ) (rows : List (List ℕ)) (pivots : List ℕ) (o
   pub cleared : IsZeroAt pivots new
 
 -- the new row is the multiple of the old one that is 1 at the pivot
-pub record MadeOne (pivot : ℕ) (old new : List ℕ) : Type 0 where
+pub record IsNormalized (pivot : ℕ) (old new : List ℕ) : Type 0 where
   pub factor : ℕ
+  pub byte : factor < 256
   pub multiple : new ≡ scaled_row factor old
   pub back : old ≡ scaled_row (slice_index old pivot) new
   pub one : slice_index new pivot ≡ 1
 
 -- the first byte of the row that isn't 0 stands here
-pub record IsFirst (row : List ℕ) (place : ℕ) : Type 0 where
+pub record IsLeading (row : List ℕ) (place : ℕ) : Type 0 where
   pub within : place < length row
   pub stands : slice_index row place ≢ 0
   pub before : (k : ℕ) → k < place → slice_index row k ≡ 0
