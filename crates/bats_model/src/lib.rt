@@ -13,6 +13,7 @@ mod plain;
 mod read_end;
 mod session;
 mod systematic;
+mod taken;
 
 pub use answer::Answer;
 pub use batch::Batch;
@@ -25,3 +26,4 @@ pub use plain::{is_plain, unit_place};
 pub use read_end::{HeaderField, ReadEnd};
 pub use session::{BadSession, Session};
 pub use systematic::unit_batch;
+pub use taken::Taken;

@@ -8,11 +8,12 @@ use Rattle.gf_core.specs.Bytes.{AreBytes}
 use Rattle.gf_core.specs.Field.{gf_add, gf_mul, gf_sum}
 use Rattle.gf_core.specs.Rows.{row_sum, scaled_row, add_scaled_row}
 use Rattle.gf_core.specs.Combinations.{combination, IsInSpan}
+use Rattle.gf_core.specs.Triangular.{AreRows, IsZeroAt, AreTriangular}
 use Rattle.gf_core.proofs.AddLemmas.{zero-gf_add, gf_add_comm}
 use Rattle.gf_core.proofs.SumLemmas.{gf_sum-zero, gf_sum-zeros, gf_sum-first}
 use Rattle.gf_core.proofs.ProductLemmas.{zero-gf_mul, gf_mul-zero, gf_mul-one}
 use Rattle.gf_core.proofs.RowLemmas.{length-row_sum, length-scaled_row, length-add_scaled_row, get_or-add_scaled_row, add_scaled_row-lt, scaled_row-lt, row_sum_comm, row_sum_assoc, scaled_row-row_sum, scaled_row-gf_add, scaled_row-gf_mul, scaled_row-one, scaled_row-replicate_zero, row_sum-replicate_zero, replicate_zero-row_sum, add_scaled_row-zero}
-use Rattle.gf_core.proofs.LinearRows.{AreRows, AreRows-tail, IsLinear, IsLinear-zeros, IsLinear-entry}
+use Rattle.gf_core.proofs.LinearRows.{AreRows-tail, IsLinear, IsLinear-zeros, IsLinear-entry}
 
 -- ---- sums of rows
 
@@ -289,16 +290,6 @@ pub vanishes-span : (width : ℕ) (h : List ℕ → ℕ) (rows : List (List ℕ)
 vanishes-span width h rows row linear are zeros is = sym (ap h is.sums) ∙ vanishes-combination width h is.factors rows linear are zeros
 
 -- ---- triangular rows
-
--- each row is 1 at its pivot, and the later rows are 0 there
-pub record AreTriangular (pivots : List ℕ) (rows : List (List ℕ)) : Type 0 where
-  pub sizes : length pivots ≡ length rows
-  pub ones : (i : ℕ) → i < length rows → get_or (get_or rows i []) (get_or pivots i 0) 0 ≡ 1
-  pub later : (i j : ℕ) → i < j → j < length rows → get_or (get_or rows j []) (get_or pivots i 0) 0 ≡ 0
-
--- the row is 0 at each pivot
-abbrev pub IsZeroAt : List ℕ → List ℕ → Type 0
-IsZeroAt pivots row = All (λ pivot. get_or row pivot 0 ≡ 0) pivots
 
 pub AreTriangular-nil : AreTriangular [] []
 AreTriangular-nil = record {

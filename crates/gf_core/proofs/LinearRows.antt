@@ -1,20 +1,15 @@
 -- Rows of one width, and linear functions of rows, such as the entry at a place or the product with a list of elements.
 use Rattle.std.proofs.Common.{ℕ, ◌≡◌, ◌<◌, ◌≤◌, ◌∙◌, List, [], ◌∷◌, ◌++◌, length, get_or, replicate, sym, ap, arith}
-use Rattle.std.specs.Prelude.{All}
 use Rattle.std.proofs.lemmas.List.{length-replicate}
 use Rattle.std.proofs.lemmas.List.Elements.{All-nil, All-tail, All-push, All-replicate}
 use Rattle.gf_core.specs.Bytes.{AreBytes}
 use Rattle.gf_core.specs.Field.{gf_add, gf_mul, gf_sum}
 use Rattle.gf_core.specs.Rows.{scaled_row, add_scaled_row}
+pub use Rattle.gf_core.specs.Triangular.{AreRows}
 use Rattle.gf_core.proofs.AddLemmas.{gf_add_add_comm}
 use Rattle.gf_core.proofs.SumLemmas.{gf_sum-congruence, gf_sum-gf_add}
 use Rattle.gf_core.proofs.ProductLemmas.{zero-gf_mul, gf_mul-gf_add, gf_mul-gf_add_left, gf_mul-gf_sum, gf_mul_assoc}
 use Rattle.gf_core.proofs.RowLemmas.{byte_at, get_or-add_scaled_row, get_or-scaled_row, scaled_row-replicate_zero}
-
--- each of the rows has this width, and bytes
-pub record AreRows (width : ℕ) (rows : List (List ℕ)) : Type 0 where
-  pub widths : All (λ row. length row ≡ width) rows
-  pub bytes : All AreBytes rows
 
 pub AreRows-nil : (width : ℕ) → AreRows width []
 AreRows-nil width = record {

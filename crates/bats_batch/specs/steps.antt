@@ -1,0 +1,3 @@
+pub mod Reduction
+pub mod Entries
+pub mod IsBasis

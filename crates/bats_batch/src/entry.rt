@@ -1,0 +1,68 @@
+//! The entries of a basis: kept packets, each beside its reduced row.
+ghost use Rattle.std.specs.Prelude.{◌≡◌, ◌≢◌, ◌<◌, ◌+◌, ◌≤◌, length, IfOk, OnOk, OnErr, slice_index};
+ghost use Rattle.gf_core.specs.Bytes.{AreBytes};
+ghost use Rattle.bats_model.specs.Kept.{packet_row};
+ghost use Rattle.bats_batch.specs.steps.Entries.{Keeps};
+
+use crate::reduction::make_one;
+use bats_model::{Bytes, Packet};
+use gf_rows::Steps;
+use std::alloc::{AllocError, Global};
+use std::sync::ledger::Ledger;
+
+// A kept packet as it was offered, and beside it its reduced row: coefficients and payload bytes, 1 at the pivot.
+#[derive(Drop)]
+pub(crate) struct Entry {
+    pub(crate) packet: Packet,
+    pub(crate) pivot: usize,
+    pub(crate) row: Vec<u8>,
+}
+
+// Makes the buffer the packet as one row of this many bytes.
+pub(crate) fn write_row(row: &mut Vec<u8>, packet: &Packet, size: usize) -> Result<(), AllocError>
+    ensures { OnOk result (row.new.items ≡ packet_row packet.now) }
+{
+    row.clear();
+    row.try_reserve_exact(size)?;
+    row.extend_from_slice(packet.coefs.as_slice())?;
+    row.extend_from_slice(packet.payload.as_slice())?;
+    Ok(())
+}
+
+fn copy_of(alloc: Global, packet: &Packet) -> Result<Packet, AllocError>
+    ensures { IfOk result (λ copy. copy ≡ packet.now) }
+{
+    let coefs = Bytes::copy_of(alloc, packet.coefs.as_slice())?;
+    let payload = Bytes::copy_of(alloc, packet.payload.as_slice())?;
+    Ok(Packet {
+        batch: packet.batch,
+        coefs,
+        payload,
+    })
+}
+
+// Appends an entry of a copy of the packet and of its reduced row, made 1 at the pivot. An `Err` changes no entry.
+pub(crate) fn keep<C: Ledger, L: Ledger>(
+    alloc: Global,
+    entries: &mut Vec<Entry>,
+    packet: &Packet,
+    pivot: usize,
+    mut row: Vec<u8>,
+    coef_steps: &mut Steps<C>,
+    steps: &mut Steps<L>,
+) -> Result<(), AllocError>
+    requires bytes { AreBytes row.items }
+    requires pivot { pivot < length row.items }
+    requires entry { slice_index row.items pivot ≢ 0 }
+    ensures ok { OnOk result (Keeps entries.old.items entries.new.items packet.now pivot row.items) }
+    ensures err { OnErr result (entries.new.items ≡ entries.old.items) }
+    ensures coef_steps { coef_steps.new ≤ coef_steps.old + 1 }
+    ensures steps { steps.new ≤ steps.old + 1 }
+    ensures coef_steps_rise { coef_steps.old ≤ coef_steps.new }
+    ensures steps_rise { steps.old ≤ steps.new }
+{
+    let packet = copy_of(alloc, packet)?;
+    make_one(&mut row, pivot, coef_steps, steps);
+    entries.push(Entry { packet, pivot, row })?;
+    Ok(())
+}
