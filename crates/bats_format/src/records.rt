@@ -1,9 +1,9 @@
-ghost use Rattle.std.specs.Prelude.{ℕ, ◌≡◌, ◌≤◌, length};
+ghost use Rattle.std.specs.Prelude.{ℕ, ◌≡◌, ◌≤◌, ◌∷◌, [], length};
 ghost use Rattle.std.specs.Int.{w32, to_be_bytes};
 ghost use Rattle.bats_model.specs.Session.{IsSession};
 ghost use Rattle.bats_model.specs.PacketFile.{IsItemAt, record_of, most_records};
 ghost use Rattle.bats_model.specs.Records.{header_tag, packet_tag};
-ghost use Rattle.bats_format.specs.Taking.{most_of_record, FirstIs, TakesFirst, TagIs, byte_of, TakesTag, TakesBody, TakesRecord};
+ghost use Rattle.bats_format.specs.Taking.{most_of_record, TakesFirst, TagIs, byte_of, TakesTag, TakesBody, TakesRecord};
 
 use crate::filling::{fill, fill_part, fill_three};
 use crate::header::{header_bytes, read_header};
@@ -28,33 +28,37 @@ enum Tag {
     Packet,
 }
 
-// The session of a first header of which so many bytes came.
-fn first_of(bytes: &[u8; 32], count: usize) -> Result<Session, ReadEnd>
-    requires { count ≤ 32 }
-    ensures { FirstIs bytes.now count result }
+// Reads what follows the first byte of the first header.
+fn take_header<S: Source>(source: &mut S) -> Result<Session, ReadEnd>
+    ensures { TakesFirst
+        (record { left = S.left source.old; faults = S.faults source.old })
+        (record { left = S.left source.new; faults = S.faults source.new })
+        (header_tag ∷ []) result }
 {
-    if count == 0 || bytes[0] != HEADER_TAG {
-        return Err(ReadEnd::NoHeader);
-    }
-    if count < 32 {
-        return Err(ReadEnd::Truncated { at: 0 });
-    }
-    match read_header(bytes) {
+    let mut bytes = [HEADER_TAG; 32];
+    fill_part(source, 0, &mut bytes[1..])?;
+    match read_header(&bytes) {
         Ok(session) => Ok(session),
         Err(field) => Err(ReadEnd::BadHeader { field }),
     }
 }
 
-/// Reads the first header of an input.
+/// Reads the first header of an input. Where it begins with another byte than a header, that byte alone is read.
 pub(crate) fn take_first<S: Source>(source: &mut S) -> Result<Session, ReadEnd>
     ensures { TakesFirst
         (record { left = S.left source.old; faults = S.faults source.old })
         (record { left = S.left source.new; faults = S.faults source.new })
-        result }
+        [] result }
 {
-    let mut bytes = [0; 32];
+    let mut bytes = [0; 1];
     match fill(source, &mut bytes) {
-        Ok(count) => first_of(&bytes, count),
+        Ok(0) => Err(ReadEnd::NoHeader),
+        Ok(_) => {
+            if bytes[0] != HEADER_TAG {
+                return Err(ReadEnd::NoHeader);
+            }
+            take_header(source)
+        }
         Err(_) => Err(ReadEnd::ReadFault),
     }
 }

@@ -1,5 +1,5 @@
 use crate::Reader;
-use bats_io::MemSource;
+use bats_io::{MemSource, Source};
 use bats_model::{HeaderField, Item, ReadEnd};
 use std::alloc::Global;
 use std::test::Fail;
@@ -103,6 +103,33 @@ fn refuses_at_the_place(rt: HostRuntime) -> Result<(), Fail> {
         let bad = Err(ReadEnd::BadTag { at: 32, byte: 0x51 });
         assert_eq!(rt; count_items(alloc, input(alloc, 32, &[0x51])?, most), bad);
     }
+    Ok(())
+}
+
+// What is left of a source, up to four bytes.
+fn left_of(source: &mut MemSource) -> [u8; 4] {
+    let mut left = [0; 4];
+    let _ = source.read(&mut left);
+    left
+}
+
+#[test]
+fn reads_one_byte_of_what_begins_no_record(rt: HostRuntime) -> Result<(), Fail> {
+    let alloc = rt.alloc();
+    let mut source = MemSource::new(b"XBTS".to_vec(alloc)?, 1000, Vec::new(alloc));
+    let mut reader = Reader::new();
+    assert!(rt; matches!(&reader.next(alloc, &mut source), Err(ReadEnd::NoHeader)));
+    assert_eq!(rt; &left_of(&mut source), b"BTS\0");
+    let mut source = MemSource::new(input(alloc, 32, b"QPBX")?, 1000, Vec::new(alloc));
+    let mut reader = Reader::new();
+    assert!(rt; matches!(&reader.next(alloc, &mut source), Ok(Some(_))));
+    assert!(rt;
+        matches!(
+            &reader.next(alloc, &mut source),
+            Err(ReadEnd::BadTag { .. })
+        )
+    );
+    assert_eq!(rt; &left_of(&mut source), b"PBX\0");
     Ok(())
 }
 
