@@ -72,7 +72,7 @@ EndsWithin-of before after part count f h = record {
   left = take count part;
   told = IsTold-read before.left after.left (take count part) f.read (f.end h);
   short = omega (arith, length-take count part);
-  read = record { bytes = take count part; read = f.read; within = omega (arith, length-take count part) };
+  read = f.read;
   no_fault = f.no_fault;
 }
 
@@ -102,7 +102,7 @@ EndsWithin-after before between after part size more h p e = record {
   left = part ++ e.left;
   told = IsTold-after before.left between.left part e.left p.read e.told;
   short = omega (arith, length-append part e.left, e.short);
-  read = ReadsFewer-after before.left between.left after.left part size more h p.read e.read;
+  read = IsRead-after before.left between.left after.left part e.left p.read e.read;
   no_fault = e.no_fault ∙ p.no_fault;
 }
 

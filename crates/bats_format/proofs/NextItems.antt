@@ -4,13 +4,14 @@ use Rattle.bats_io.specs.Streams.{InputState, IsRead}
 use Rattle.bats_model.specs.Session.{SessionData, IsSession}
 use Rattle.bats_model.specs.Records.{header_record}
 use Rattle.bats_model.specs.PacketFile.{IsPacketFile, IsItemAt, record_of, most_records}
-use Rattle.bats_model.specs.Refusal.{RefusesRecord, first_refusal}
+use Rattle.bats_model.specs.Refusal.{RefusesHeader, RefusesRecord, first_refusal}
 use Rattle.bats_model.specs.declared.item.Item.{Item}
 use Rattle.bats_model.specs.declared.item.Item.TheVariants as items
 use Rattle.bats_model.specs.declared.read_end.ReadEnd.{ReadEnd}
 use Rattle.bats_model.specs.declared.read_end.ReadEnd.TheVariants as ends
 use Rattle.bats_format.specs.Reader.{ReaderData, StandsFor, IsOpen, GivesItem, RefusesInput, Refuses, IsKept, BeginsAtNothing}
-use Rattle.bats_format.specs.Taking.{TakesHeader, IsStop, StopsAt, RecordStops, TakesNext}
+use Rattle.bats_format.specs.declared.buffers.Buffers.{Buffers}
+use Rattle.bats_format.specs.Taking.{FitsSpare, IsSpareOf, TakesHeader, StopsFirst, FirstStops, IsStop, StopsAt, RecordStops, TakesNext}
 use Rattle.bats_format.proofs.RecordLemmas.{length-header_record}
 use Rattle.bats_format.proofs.PacketFiles.{IsPacketFile-more, IsPacketFile-header}
 use Rattle.bats_format.proofs.Refusals.{longest_front}
@@ -64,6 +65,12 @@ pub BeginsAtNothing-some : (session : Option SessionData) (some : SessionData) (
 BeginsAtNothing-some session some records offset e =
     subst (λ (s : Option SessionData). BeginsAtNothing s records offset) (sym e) tt
 
+-- spare buffers
+pub IsSpareOf-fits : (session : Option SessionData) (some : SessionData) (spare : Option Buffers) → session ≡ Some some
+    → FitsSpare some.m some.t spare → IsSpareOf session spare
+IsSpareOf-fits session some None e h = tt
+IsSpareOf-fits session some (Some buffers) e h = subst (λ (s : Option SessionData). IsSpareOf s (Some buffers)) (sym e) h
+
 -- ---- the first header
 
 first_stands : (session : SessionData) (bytes : List ℕ) (list : List Item) → IsSession session → StandsFor bytes list (going None 0 0)
@@ -79,7 +86,7 @@ first_stands session bytes list h s =
       offset = omega (arith, s.offset, length-append bytes (header_record session), length-header_record session h);
     }
 
-gives_first : (before after : InputState) (session : SessionData) → TakesHeader before after session
+gives_first : (before after : InputState) (session : SessionData) → TakesHeader before after [] session
     → GivesItem before after (going None 0 0) (going (Some session) 1 32) (items.Header 0)
 unfolding record_of
 gives_first before after session t = record {
@@ -91,13 +98,13 @@ gives_first before after session t = record {
   place = refl;
   counted = refl;
   few = omega arith;
-  taken = t.taken;
+  taken = subst (λ (bytes : List ℕ). IsRead before.left after.left bytes) t.header t.taken;
   no_fault = t.no_fault;
   stands = λ bytes list s. first_stands session bytes list t.is_session s;
 }
 
 pub GivesItem-first : {before after : InputState} {session : SessionData} {reader reader' : ReaderData} → reader ≡ going None 0 0
-    → reader' ≡ going (Some session) 1 32 → TakesHeader before after session → GivesItem before after reader reader' (items.Header 0)
+    → reader' ≡ going (Some session) 1 32 → TakesHeader before after [] session → GivesItem before after reader reader' (items.Header 0)
 GivesItem-first {before} {after} {session} {reader} {reader'} e e' t =
     subst (λ (r : ReaderData). GivesItem before after r reader' (items.Header 0)) (sym e)
     (subst (λ (r : ReaderData). GivesItem before after (going None 0 0) r (items.Header 0)) (sym e') (gives_first before after session t))
@@ -140,6 +147,39 @@ GivesItem-next {before} {after} {session} {records} {offset} {item} {reader} {re
 
 -- ---- refusals
 
+refuses_first_input : (before after : InputState) (end : ReadEnd) → StopsFirst before after [] end
+    → RefusesInput before after (going None 0 0) (record (going None 0 0) { refused = Some end }) end
+refuses_first_input before after end s = record {
+  was_open = open_going None 0 0;
+  refused = refl;
+  left = s.left;
+  told = s.told;
+  is_refused = λ bytes list h. subst (λ (front : List ℕ). RefusesHeader (front ++ s.left) end) (sym h.read.0) s.refused;
+  read = s.read;
+  size = s.size;
+  no_fault = s.no_fault;
+}
+
+refuses_first : (before after : InputState) (end : ReadEnd) → FirstStops before after [] end
+    → Refuses before after (going None 0 0) (record (going None 0 0) { refused = Some end }) end
+refuses_first before after ends.Memory s = absurd s
+refuses_first before after ends.ReadFault s = inr (record { was_open = open_going None 0 0; refused = refl; fault = s.fault; read = s.read })
+refuses_first before after ends.NoHeader s = inr (refuses_first_input before after _ s)
+refuses_first before after (ends.BadHeader field) s = inr (refuses_first_input before after _ s)
+refuses_first before after (ends.BadTag at byte) s = inr (refuses_first_input before after _ s)
+refuses_first before after (ends.OtherSession at) s = inr (refuses_first_input before after _ s)
+refuses_first before after (ends.Truncated at) s = inr (refuses_first_input before after _ s)
+refuses_first before after ends.TooManyRecords s = inr (refuses_first_input before after _ s)
+
+pub Refuses-first : (before after : InputState) (fields reader reader' : ReaderData) (end : ReadEnd) → fields ≡ reader
+    → reader ≡ going None 0 0 → reader' ≡ record fields { refused = Some end } → FirstStops before after [] end
+    → Refuses before after reader reader' end
+Refuses-first before after fields reader reader' end e new refused s =
+    subst (λ (r : ReaderData). Refuses before after r reader' end) (sym new)
+    (subst (λ (r : ReaderData). Refuses before after (going None 0 0) r end)
+    (sym (refused ∙ ap (λ (r : ReaderData). record r { refused = Some end }) (e ∙ new)))
+    (refuses_first before after end s))
+
 refused_after : (session : SessionData) (records offset : ℕ) (left bytes : List ℕ) (list : List Item) (end : ReadEnd)
     → IsStop session records offset left end → StandsFor bytes list (going (Some session) records offset)
     → RefusesRecord (bytes ++ left) session list end
@@ -163,6 +203,7 @@ refuses_input before after session records offset end s = record {
   told = s.told;
   is_refused = λ bytes list h. refused_after session records offset s.left bytes list end s.stop h;
   read = s.read;
+  size = s.size;
   no_fault = s.no_fault;
 }
 

@@ -1,6 +1,6 @@
 -- Records that are read, and why one isn't.
 use Rattle.std.specs.Prelude.{option_map, ◌==◌, ◌&&◌, not, nat_le, nat_lt}
-use Rattle.std.proofs.Common.{◌≡◌, ◌≢◌, ℕ, ◌+◌, ◌<◌, ◌≤◌, Bool, true, false, cond, zero, suc, ◌^◌, List, [], ◌∷◌, ◌++◌, length, take, drop, get_or, append_assoc, append-nil, Option, None, Some, Result, Ok, Err, refl, sym, ap, subst, ◌∙◌, arith, length-append, length-take}
+use Rattle.std.proofs.Common.{◌≡◌, ◌≢◌, ℕ, ◌+◌, ◌<◌, ◌≤◌, Bool, true, false, cond, suc, ◌^◌, List, [], ◌∷◌, ◌++◌, length, take, drop, get_or, append_assoc, append-nil, Option, None, Some, Result, Ok, Err, refl, sym, ap, subst, ◌∙◌, arith, length-append}
 use Rattle.std.specs.Int.{w32, to_be_bytes}
 use Rattle.std.proofs.lemmas.List.{take_all}
 use Rattle.std.proofs.lemmas.Slice.Eq.{bytes_eq-Decides}
@@ -24,7 +24,7 @@ use Rattle.bats_model.specs.declared.read_end.HeaderField.{HeaderField}
 use Rattle.bats_model.specs.declared.read_end.ReadEnd.{ReadEnd}
 use Rattle.bats_model.specs.declared.read_end.ReadEnd.TheVariants as ends
 use Rattle.bats_format.specs.Filling.{IsFilled, FailsWithin, IsPart, PartIsFilled, FillsPart}
-use Rattle.bats_format.specs.Taking.{HasNoRecord, room_of, FirstIs, StopsFirst, FirstStops, TakesFirst, ReadsWithin, FailsAt, IsStop, StopsAt, StopCause, Stops, TakesByte, TakesItem, TakesBody, RecordStops}
+use Rattle.bats_format.specs.Taking.{HasNoRecord, room_of, size_read, StopsFirst, FirstStops, TakesFirst, ReadsWithin, FailsAt, IsStop, StopsAt, StopCause, Stops, TakesByte, TakesItem, TakesBody, RecordStops}
 use Rattle.bats_format.proofs.RecordLemmas.{same_parts, length-header_record, header_rest, header_record-begins, length-packet_record, packet_rest, packet_record-begins}
 use Rattle.bats_format.proofs.PacketFiles.{IsPacketFile-header}
 use Rattle.bats_format.proofs.Refusals.{front_begins}
@@ -156,21 +156,25 @@ no_short session (items.Packet at packet) bytes more h e =
 
 -- ---- how far a record goes
 
-room_of-some : (session : SessionData) (tag : ℕ) (bytes : List ℕ) → 1 ≤ room_of (Some session) (tag ∷ bytes)
-room_of-some session tag bytes = grind (arith, nat_tests)
+room_of-some : (session : Option SessionData) (records tag : ℕ) (bytes : List ℕ) → 1 ≤ room_of session records (tag ∷ bytes)
+room_of-some None records tag bytes = grind (arith, nat_tests)
+room_of-some (Some session) records tag bytes = grind (arith, nat_tests)
 
 -- one byte at most
-within-one : (session : SessionData) (bytes : List ℕ) → length bytes < 2 → length bytes ≤ room_of (Some session) bytes
-within-one session [] h = omega arith
-within-one session (tag ∷ bytes) h = omega (arith, room_of-some session tag bytes)
+within-one : (session : Option SessionData) (records : ℕ) (bytes : List ℕ) → length bytes < 2 → length bytes ≤ room_of session records bytes
+within-one session records [] h = omega arith
+within-one session records (tag ∷ bytes) h = omega (arith, room_of-some session records tag bytes)
 
-within-header : (session : SessionData) (bytes : List ℕ) → length bytes < 32
-    → length (header_tag ∷ bytes) ≤ room_of (Some session) (header_tag ∷ bytes)
-within-header session bytes h = let r : suc (length bytes) ≤ 32 = omega arith in r
+within-first : (bytes : List ℕ) → length bytes < 32 → length (header_tag ∷ bytes) ≤ room_of None 0 (header_tag ∷ bytes)
+within-first bytes h = let r : suc (length bytes) ≤ 32 = omega arith in r
 
-within-packet : (session : SessionData) (bytes : List ℕ) → length bytes < 5 + session.m + session.t
-    → length (packet_tag ∷ bytes) ≤ room_of (Some session) (packet_tag ∷ bytes)
-within-packet session bytes h = let r : suc (length bytes) ≤ 5 + session.m + session.t = omega arith in r
+within-header : (session : SessionData) (records : ℕ) (bytes : List ℕ) → records ≢ most_records → length bytes < 32
+    → length (header_tag ∷ bytes) ≤ room_of (Some session) records (header_tag ∷ bytes)
+within-header session records bytes more h = grind (arith, nat_tests)
+
+within-packet : (session : SessionData) (records : ℕ) (bytes : List ℕ) → records ≢ most_records → length bytes < 5 + session.m + session.t
+    → length (packet_tag ∷ bytes) ≤ room_of (Some session) records (packet_tag ∷ bytes)
+within-packet session records bytes more h = grind (arith, nat_tests)
 
 -- ---- stops
 
@@ -206,36 +210,38 @@ Stops-at {before} {after} {session} {records} {offset} {begun} {end} p = record 
 }
 
 -- a stop after bytes that were read
-reads_after : (before between after : InputState) (session : Option SessionData) (offset : ℕ) (bytes : List ℕ) → IsPart before between bytes
-    → ReadsWithin session offset between.left after.left bytes → ReadsWithin session offset before.left after.left []
-reads_after before between after session offset bytes p r = record {
+reads_after : (before between after : InputState) (session : Option SessionData) (records offset : ℕ) (bytes : List ℕ) → IsPart before between bytes
+    → ReadsWithin session records offset between.left after.left bytes → ReadsWithin session records offset before.left after.left []
+reads_after before between after session records offset bytes p r = record {
   bytes = bytes ++ r.bytes;
   read = IsRead-after before.left between.left after.left bytes r.bytes p.read r.read;
   within = r.within;
   none = r.none;
 }
 
-fails_after : (before between after : InputState) (session : Option SessionData) (offset : ℕ) (bytes : List ℕ) → IsPart before between bytes
-    → FailsAt between after session offset bytes → FailsAt before after session offset []
-fails_after before between after session offset bytes p f = record {
+fails_after : (before between after : InputState) (session : Option SessionData) (records offset : ℕ) (bytes : List ℕ) → IsPart before between bytes
+    → FailsAt between after session records offset bytes → FailsAt before after session records offset []
+fails_after before between after session records offset bytes p f = record {
   fault = subst (λ (n : ℕ). Rose n after.faults) p.no_fault f.fault;
-  read = reads_after before between after session offset bytes p f.read;
+  read = reads_after before between after session records offset bytes p f.read;
 }
 
 stops_after : (before between after : InputState) (session : SessionData) (records offset : ℕ) (bytes : List ℕ) (end : ReadEnd)
     → IsPart before between bytes → StopsAt between after session records offset bytes end → StopsAt before after session records offset [] end
+unfolding reads_after
 stops_after before between after session records offset bytes end p s = record {
   left = bytes ++ s.left;
   told = IsTold-after before.left between.left bytes s.left p.read s.told;
   stop = s.stop;
-  read = reads_after before between after (Some session) offset bytes p s.read;
+  read = reads_after before between after (Some session) records offset bytes p s.read;
+  size = s.size;
   no_fault = s.no_fault ∙ p.no_fault;
 }
 
 stop_after : (before between after : InputState) (session : SessionData) (records offset : ℕ) (bytes : List ℕ) (end : ReadEnd)
     → IsPart before between bytes → StopCause between after session records offset bytes end → StopCause before after session records offset [] end
 stop_after before between after session records offset bytes ends.Memory p s = s
-stop_after before between after session records offset bytes ends.ReadFault p s = fails_after before between after (Some session) offset bytes p s
+stop_after before between after session records offset bytes ends.ReadFault p s = fails_after before between after (Some session) records offset bytes p s
 stop_after before between after session records offset bytes ends.NoHeader p s = stops_after before between after session records offset bytes _ p s
 stop_after before between after session records offset bytes (ends.BadHeader field) p s = stops_after before between after session records offset bytes _ p s
 stop_after before between after session records offset bytes (ends.BadTag at byte) p s = stops_after before between after session records offset bytes _ p s
@@ -285,7 +291,7 @@ Stops-untagged {before} {after} {records} {offset} size one f session = record {
     read = record {
       bytes = f.read.bytes;
       read = f.read.read;
-      within = within-one session f.read.bytes (omega (arith, f.read.within));
+      within = within-one (Some session) records f.read.bytes (omega (arith, f.read.within));
       none = λ item more place e. no_short session item f.read.bytes more (omega (arith, f.read.within)) e;
     };
   };
@@ -293,19 +299,21 @@ Stops-untagged {before} {after} {records} {offset} size one f session = record {
 
 pub Stops-tag : {before after : InputState} {records offset : ℕ} {end : ReadEnd} (buffer : List ℕ) (count : ℕ) → length buffer ≡ 1 → count ≢ 0
     → IsFilled before after buffer count
-    → ((session : SessionData) (rest : List ℕ) → IsStop session records offset (get_or buffer 0 0 ∷ rest) end)
+    → ((session : SessionData) (rest : List ℕ)
+    → IsStop session records offset (get_or buffer 0 0 ∷ rest) end × (size_read end (get_or buffer 0 0 ∷ rest) ≡ 1))
     → (session : SessionData) → Stops before after session records offset [] end
 Stops-tag {before} {after} {records} {offset} {end} buffer count size some f stop session =
     Stops-at (record {
       left = get_or buffer 0 0 ∷ left_of after.left;
       told = IsTold-of before.left after.left (get_or buffer 0 0 ∷ []) (read_byte before after buffer count size some f);
-      stop = stop session (left_of after.left);
+      stop = (stop session (left_of after.left)).0;
       read = record {
         bytes = get_or buffer 0 0 ∷ [];
         read = read_byte before after buffer count size some f;
-        within = within-one session (get_or buffer 0 0 ∷ []) (omega arith);
+        within = within-one (Some session) records (get_or buffer 0 0 ∷ []) (omega arith);
         none = λ item more place e. no_short session item (get_or buffer 0 0 ∷ []) more (omega arith) e;
       };
+      size = sym (stop session (left_of after.left)).1;
       no_fault = f.no_fault;
     })
 
@@ -394,59 +402,16 @@ RefusesHeader-broken input field size h broken other = record {
   refusal = broken_refusal input field size h broken;
 }
 
--- bytes of a first header that came, and what follows
-first_at : (count : ℕ) (bytes rest : List ℕ) → 0 < count → 0 < length bytes → get_or (take count bytes ++ rest) 0 0 ≡ get_or bytes 0 0
-first_at zero bytes rest h k = absurd (omega arith)
-first_at (suc count) [] rest h k = absurd (omega arith)
-first_at (suc count) (byte ∷ bytes) rest h k = refl
-
-came : (count : ℕ) (bytes rest : List ℕ) → length bytes ≡ header_size → count ≤ header_size
-    → length (take count bytes ++ rest) ≡ count + length rest
-came count bytes rest size h = omega (arith, length-append (take count bytes) rest, length-take count bytes)
-
-none_came : (bytes : List ℕ) (count : ℕ) → length bytes ≡ header_size → count ≤ header_size → (0 < count → get_or bytes 0 0 ≢ header_tag) → (rest : List ℕ)
-    → (count < header_size → rest ≡ []) → 0 < length (take count bytes ++ rest) → get_or (take count bytes ++ rest) 0 0 ≢ header_tag
-none_came bytes zero size within h rest end some =
-    absurd (omega (arith, some, came 0 bytes rest size within, ap length (end (omega arith))))
-none_came bytes (suc count) size within h rest end some =
-    let first : get_or (take (suc count) bytes ++ rest) 0 0 ≡ get_or bytes 0 0 = first_at (suc count) bytes rest (omega arith) (omega arith) in
-    λ e. h (omega arith) (sym first ∙ e)
-
-pub FirstIs-none : (bytes : List ℕ) (count : ℕ) → length bytes ≡ header_size → count ≤ header_size
-    → (0 < count → get_or bytes 0 0 ≢ header_tag) → FirstIs bytes count (Err ends.NoHeader)
-FirstIs-none bytes count size within h rest end =
-    RefusesHeader-none (take count bytes ++ rest) (none_came bytes count size within h rest end)
-
-pub FirstIs-cut : (bytes : List ℕ) (count : ℕ) → length bytes ≡ header_size → 0 < count → get_or bytes 0 0 ≡ header_tag → count < header_size
-    → FirstIs bytes count (Err (ends.Truncated 0))
-FirstIs-cut bytes count size some h short rest end =
-    let length_is = came count bytes rest size (omega arith) in
-    let nothing : length rest ≡ 0 = ap length (end short) in
-    RefusesHeader-cut (take count bytes ++ rest) (omega arith) (first_at count bytes rest some (omega arith) ∙ h) (omega arith)
-
-pub FirstIs-broken : (bytes : List ℕ) (count : ℕ) (field : HeaderField) → length bytes ≡ header_size → count ≡ header_size
-    → get_or bytes 0 0 ≡ header_tag → first_broken bytes ≡ Some field
-    → ((session : SessionData) → IsSession session → bytes ≡ header_record session → ⊥)
-    → FirstIs bytes count (Err (ends.BadHeader field))
-FirstIs-broken bytes count field size whole h broken other rest end =
-    let length_is = came count bytes rest size (omega arith) in
-    let all : take count bytes ≡ bytes = take_all count bytes (omega arith) in
-    let front : take header_size (take count bytes ++ rest) ≡ bytes =
-    ap (λ (list : List ℕ). take header_size (list ++ rest)) all
-    ∙ ap (λ (n : ℕ). take n (bytes ++ rest)) (sym size) ∙ take-append_seam bytes rest in
-    RefusesHeader-broken (take count bytes ++ rest) field (omega arith)
-    (first_at count bytes rest (omega arith) (omega arith) ∙ h) (ap first_broken front ∙ broken)
-    (λ session is_session e. other session is_session (sym front ∙ e))
-
-first_stops : (before after : InputState) (end : ReadEnd) → IsOfInput end → StopsFirst before after end → FirstStops before after end
-first_stops before after ends.Memory h p = absurd h
-first_stops before after ends.ReadFault h p = absurd h
-first_stops before after ends.NoHeader h p = p
-first_stops before after (ends.BadHeader field) h p = p
-first_stops before after (ends.BadTag at byte) h p = p
-first_stops before after (ends.OtherSession at) h p = p
-first_stops before after (ends.Truncated at) h p = p
-first_stops before after ends.TooManyRecords h p = p
+first_stops : (before after : InputState) (begun : List ℕ) (end : ReadEnd) → IsOfInput end → StopsFirst before after begun end
+    → FirstStops before after begun end
+first_stops before after begun ends.Memory h p = absurd h
+first_stops before after begun ends.ReadFault h p = absurd h
+first_stops before after begun ends.NoHeader h p = p
+first_stops before after begun (ends.BadHeader field) h p = p
+first_stops before after begun (ends.BadTag at byte) h p = p
+first_stops before after begun (ends.OtherSession at) h p = p
+first_stops before after begun (ends.Truncated at) h p = p
+first_stops before after begun ends.TooManyRecords h p = p
 
 -- what begins an input that is refused at its first record is no header
 none_begun : (begun rest : List ℕ) (end : ReadEnd) → RefusesHeader (begun ++ rest) end → HasNoRecord None 0 begun
@@ -456,43 +421,175 @@ none_begun begun rest end r session more h e =
       split = ap (λ (front : List ℕ). front ++ rest) e ∙ append_assoc (header_record session) more rest;
     })
 
-pub TakesFirst-of : {before after : InputState} (bytes : List ℕ) (count : ℕ) (result : Result SessionData ReadEnd) → length bytes ≡ header_size
-    → IsFilled before after bytes count → FirstIs bytes count result → TakesFirst before after result
-TakesFirst-of {before} {after} bytes count (Ok session) size f p = record {
-  is_session = p.is_session;
-  taken = subst (λ (list : List ℕ). IsRead before.left after.left list) (take_all count bytes (omega (arith, p.whole)) ∙ p.header) f.read;
-  no_fault = f.no_fault;
-}
-TakesFirst-of {before} {after} bytes count (Err end) size f p =
-    let refused = p (left_of after.left) (λ short. left_of-ended after.left (f.end (omega arith))) in
-    first_stops before after end
-    (subst AreOfInput refused.refusal (header_of_input (take count bytes ++ left_of after.left)))
-    (record {
-      left = take count bytes ++ left_of after.left;
-      told = IsTold-of before.left after.left (take count bytes) f.read;
-      refused = refused;
-      read = record {
-        bytes = take count bytes;
-        read = f.read;
-        within = omega (arith, length-take count bytes);
-        none = none_begun (take count bytes) (left_of after.left) end refused;
-      };
+-- an empty input
+pub FirstStops-empty : {before after : InputState} (buffer : List ℕ) (count : ℕ) → length buffer ≡ 1 → count ≡ 0 → IsFilled before after buffer count
+    → FirstStops before after [] ends.NoHeader
+FirstStops-empty {before} {after} buffer count size none f =
+    let nothing : left_of after.left ≡ [] = left_of-ended after.left (f.end (omega arith)) in
+    let read = subst (λ (n : ℕ). IsRead before.left after.left (take n buffer)) none f.read in
+    record {
+      left = left_of after.left;
+      told = IsTold-of before.left after.left [] read;
+      refused = RefusesHeader-none (left_of after.left) (λ some. absurd (omega (arith, some, ap length nothing)));
+      read = record { bytes = []; read = read; within = omega arith; none = λ session more h e. absurd (omega (arith, ap length e, length-append (header_record session) more, length-header_record session h)) };
+      size = sym (ap (λ (bytes : List ℕ). size_read ends.NoHeader bytes) nothing);
       no_fault = f.no_fault;
-    })
+    }
 
--- the first header could not be read
-pub FirstStops-unread : {before after : InputState} (size : ℕ) → size ≡ header_size → FailsWithin before after size
-    → FirstStops before after ends.ReadFault
+no_header_begun : (byte : ℕ) (session : SessionData) (more : List ℕ) → byte ≢ header_tag → byte ∷ [] ≡ header_record session ++ more → ⊥
+no_header_begun byte session more h e =
+    h (ap (λ (list : List ℕ). get_or list 0 0) (e ∙ ap (λ (front : List ℕ). front ++ more) (header_record-begins session)))
+
+-- another byte than a header's first
+pub FirstStops-other : {before after : InputState} (buffer : List ℕ) (count : ℕ) → length buffer ≡ 1 → count ≢ 0 → get_or buffer 0 0 ≢ header_tag
+    → IsFilled before after buffer count → FirstStops before after [] ends.NoHeader
+FirstStops-other {before} {after} buffer count size some other f =
+    let byte = get_or buffer 0 0 in
+    record {
+      left = byte ∷ left_of after.left;
+      told = IsTold-of before.left after.left (byte ∷ []) (read_byte before after buffer count size some f);
+      refused = RefusesHeader-none (byte ∷ left_of after.left) (λ h. other);
+      read = record {
+        bytes = byte ∷ [];
+        read = read_byte before after buffer count size some f;
+        within = within-one None 0 (byte ∷ []) (omega arith);
+        none = λ session more h e. no_header_begun byte session more other e;
+      };
+      size = omega arith;
+      no_fault = f.no_fault;
+    }
+
+-- the first byte could not be read
+pub FirstStops-unread : {before after : InputState} (size : ℕ) → size ≡ 1 → FailsWithin before after size
+    → FirstStops before after [] ends.ReadFault
 FirstStops-unread {before} {after} size is f = record {
   fault = f.fault;
   read = record {
     bytes = f.read.bytes;
     read = f.read.read;
-    within = omega (arith, f.read.within);
+    within = within-one None 0 f.read.bytes (omega (arith, f.read.within));
     none = λ session more h e.
         absurd (omega (arith, f.read.within, ap length e, length-append (header_record session) more, length-header_record session h));
   };
 }
+
+-- a header that is cut is none
+no_first_cut : (bytes : List ℕ) (session : SessionData) (more : List ℕ) → length bytes < 31 → IsSession session
+    → header_tag ∷ bytes ≡ header_record session ++ more → ⊥
+no_first_cut bytes session more short h e =
+    absurd (omega (arith, ap length e, length-append (header_record session) more, length-header_record session h))
+
+first_cut : (before after : InputState) (part : List ℕ) (end : ReadEnd) → length part ≡ 31 → PartIsFilled before after 0 part (Err end)
+    → FirstStops before after (header_tag ∷ []) end
+first_cut before after part ends.Memory size p = absurd p
+first_cut before after part ends.ReadFault size p = record {
+  fault = p.fault;
+  read = record {
+    bytes = p.read.bytes;
+    read = p.read.read;
+    within = within-first p.read.bytes (omega (arith, p.read.within));
+    none = λ session more h e. no_first_cut p.read.bytes session more (omega (arith, p.read.within)) h e;
+  };
+}
+first_cut before after part ends.NoHeader size p = absurd p
+first_cut before after part (ends.BadHeader field) size p = absurd p
+first_cut before after part (ends.BadTag at byte) size p = absurd p
+first_cut before after part (ends.OtherSession at) size p = absurd p
+first_cut before after part (ends.Truncated at) size p = record {
+  left = p.1.left;
+  told = p.1.told;
+  refused = subst (λ (place : ℕ). RefusesHeader (header_tag ∷ p.1.left) (ends.Truncated place)) (sym p.0)
+      (RefusesHeader-cut (header_tag ∷ p.1.left) (omega arith) refl (omega (arith, p.1.short)));
+  read = record {
+    bytes = p.1.left;
+    read = p.1.read;
+    within = within-first p.1.left (omega (arith, p.1.short));
+    none = λ session more h e. no_first_cut p.1.left session more (omega (arith, p.1.short)) h e;
+  };
+  size = refl;
+  no_fault = p.1.no_fault;
+}
+first_cut before after part ends.TooManyRecords size p = absurd p
+
+-- the exit where the first header was cut or couldn't be read
+pub TakesFirst-exit : {before after : InputState} {part : List ℕ} {end : ReadEnd} (result : Result SessionData ReadEnd) → length part ≡ 31
+    → IsErrAnd result (λ y. y ≡ end) → FillsPart before after 0 part (Err end) → TakesFirst before after (header_tag ∷ []) result
+TakesFirst-exit {before} {after} {part} {end} result size h p =
+    let q = err_from_is_err_and result h in
+    subst (λ (r : Result SessionData ReadEnd). TakesFirst before after (header_tag ∷ []) r) (sym q.1)
+    (subst (λ (e : ReadEnd). FirstStops before after (header_tag ∷ []) e) (sym q.2) (first_cut before after part end size p.as_far))
+
+-- a whole header that breaks a rule
+pub FirstStops-broken : {before after : InputState} (bytes part : List ℕ) (field : HeaderField) → bytes ≡ header_tag ∷ part → length part ≡ 31
+    → first_broken bytes ≡ Some field → ((session : SessionData) → IsSession session → bytes ≡ header_record session → ⊥)
+    → FillsPart before after 0 part (Ok tt) → FirstStops before after (header_tag ∷ []) (ends.BadHeader field)
+FirstStops-broken {before} {after} bytes part field is size broken other p =
+    let filled = p.as_far in
+    let whole : length (header_tag ∷ part) ≡ header_size = omega arith in
+    let input = header_tag ∷ (part ++ left_of after.left) in
+    let front : take header_size input ≡ bytes =
+    ap (λ (n : ℕ). take n input) (sym whole) ∙ take-append_seam (header_tag ∷ part) (left_of after.left) ∙ sym is in
+    let refused : RefusesHeader input (ends.BadHeader field) =
+    RefusesHeader-broken input field (omega (arith, length-append part (left_of after.left))) refl
+    (ap first_broken front ∙ broken) (λ session is_session e. other session is_session (sym front ∙ e)) in
+    record {
+      left = part ++ left_of after.left;
+      told = IsTold-of before.left after.left part filled.read;
+      refused = refused;
+      read = record {
+        bytes = part;
+        read = filled.read;
+        within = within-first part (omega arith);
+        none = none_begun (header_tag ∷ part) (left_of after.left) (ends.BadHeader field) refused;
+      };
+      size = whole;
+      no_fault = filled.no_fault;
+    }
+
+first_part_after : (before between after : InputState) (bytes : List ℕ) (end : ReadEnd) → IsPart before between bytes
+    → StopsFirst between after bytes end → StopsFirst before after [] end
+unfolding reads_after
+first_part_after before between after bytes end p s = record {
+  left = bytes ++ s.left;
+  told = IsTold-after before.left between.left bytes s.left p.read s.told;
+  refused = s.refused;
+  read = reads_after before between after None 0 0 bytes p s.read;
+  size = s.size;
+  no_fault = s.no_fault ∙ p.no_fault;
+}
+
+first_stop_after : (before between after : InputState) (bytes : List ℕ) (end : ReadEnd) → IsPart before between bytes
+    → FirstStops between after bytes end → FirstStops before after [] end
+first_stop_after before between after bytes ends.Memory p s = s
+first_stop_after before between after bytes ends.ReadFault p s = fails_after before between after None 0 0 bytes p s
+first_stop_after before between after bytes ends.NoHeader p s = first_part_after before between after bytes _ p s
+first_stop_after before between after bytes (ends.BadHeader field) p s = first_part_after before between after bytes _ p s
+first_stop_after before between after bytes (ends.BadTag at byte) p s = first_part_after before between after bytes _ p s
+first_stop_after before between after bytes (ends.OtherSession at) p s = first_part_after before between after bytes _ p s
+first_stop_after before between after bytes (ends.Truncated at) p s = first_part_after before between after bytes _ p s
+first_stop_after before between after bytes ends.TooManyRecords p s = first_part_after before between after bytes _ p s
+
+first_after : (before between after : InputState) (bytes : List ℕ) (result : Result SessionData ReadEnd)
+    → IsPart before between bytes → TakesFirst between after bytes result → TakesFirst before after [] result
+first_after before between after bytes (Ok session) p s = record {
+  is_session = s.is_session;
+  bytes = bytes ++ s.bytes;
+  taken = IsRead-after before.left between.left after.left bytes s.bytes p.read s.taken;
+  header = s.header;
+  no_fault = s.no_fault ∙ p.no_fault;
+}
+first_after before between after bytes (Err end) p s = first_stop_after before between after bytes end p s
+
+-- what follows a header's first byte
+pub TakesFirst-after : (before between after : InputState) (result : Result SessionData ReadEnd) (buffer : List ℕ) (count : ℕ) → length buffer ≡ 1
+    → count ≢ 0 → get_or buffer 0 0 ≡ header_tag → IsFilled before between buffer count → TakesFirst between after (header_tag ∷ []) result
+    → TakesFirst before after [] result
+TakesFirst-after before between after result buffer count size some is f t =
+    first_after before between after (header_tag ∷ []) result
+    (record {
+      read = subst (λ (byte : ℕ). IsRead before.left between.left (byte ∷ [])) is (read_byte before between buffer count size some f);
+      no_fault = f.no_fault;
+    }) t
 
 -- ---- a repeat of the header
 
@@ -505,7 +602,7 @@ IsStop-header_cut session records offset bytes size more short = record {
 
 -- a cut body, of so many bytes
 cut_stops : (before after : InputState) (session : SessionData) (records offset byte : ℕ) (part : List ℕ) (end : ReadEnd)
-    → ((bytes : List ℕ) → length bytes < length part → length (byte ∷ bytes) ≤ room_of (Some session) (byte ∷ bytes))
+    → ((bytes : List ℕ) → length bytes < length part → length (byte ∷ bytes) ≤ room_of (Some session) records (byte ∷ bytes))
     → ((bytes : List ℕ) → length bytes < length part → HasNoRecord (Some session) offset (byte ∷ bytes))
     → ((bytes : List ℕ) → length bytes < length part → IsStop session records offset (byte ∷ bytes) (ends.Truncated offset))
     → PartIsFilled before after offset part (Err end) → Stops before after session records offset (byte ∷ []) end
@@ -531,11 +628,12 @@ cut_stops before after session records offset byte part (ends.Truncated at) room
     told = p.1.told;
     stop = subst (λ (place : ℕ). IsStop session records offset (byte ∷ p.1.left) (ends.Truncated place)) (sym p.0) (stop p.1.left p.1.short);
     read = record {
-      bytes = p.1.read.bytes;
-      read = p.1.read.read;
-      within = room p.1.read.bytes p.1.read.within;
-      none = none p.1.read.bytes p.1.read.within;
+      bytes = p.1.left;
+      read = p.1.read;
+      within = room p.1.left p.1.short;
+      none = none p.1.left p.1.short;
     };
+    size = refl;
     no_fault = p.1.no_fault;
   };
 }
@@ -556,7 +654,7 @@ pub TakesBody-header_exit : {before after : InputState} {offset : ℕ} {part : L
 TakesBody-header_exit {before} {after} {offset} {part} {end} session result size length_is h p =
     body_exit before after session offset header_tag end result h
     (λ records more. cut_stops before after session records offset header_tag part end
-    (λ bytes short. within-header session bytes (omega arith))
+    (λ bytes short. within-header session records bytes more (omega arith))
     (λ bytes short item rest place e. no_header_cut session offset item bytes rest size (omega arith) e)
     (λ bytes short. IsStop-header_cut session records offset bytes size more (omega arith)) p.as_far)
 
@@ -578,10 +676,11 @@ Stops-other {before} {after} {session} {offset} part size length_is differs p re
         read = record {
           bytes = part;
           read = filled.read;
-          within = within-header session part (omega arith);
+          within = within-header session records part more (omega arith);
           none = λ item rest place e.
               no_other_header session item part [] rest size length_is differs (ap (λ (bytes : List ℕ). header_tag ∷ bytes) (append-nil part) ∙ e);
         };
+        size = omega arith;
         no_fault = filled.no_fault;
       };
     }
@@ -641,7 +740,7 @@ pub TakesBody-packet_exit : {before after : InputState} {offset : ℕ} {end : Re
 TakesBody-packet_exit {before} {after} {offset} {end} session number coefs payload result is_session a b c h p =
     body_exit before after session offset packet_tag end result h
     (λ records more. cut_stops before after session records offset packet_tag (number ++ coefs ++ payload) end
-    (λ bytes short. within-packet session bytes (omega (arith, length-append (number ++ coefs) payload, length-append number coefs)))
+    (λ bytes short. within-packet session records bytes more (omega (arith, length-append (number ++ coefs) payload, length-append number coefs)))
     (λ bytes short item rest place e. no_packet_cut session offset item bytes rest
     (omega (arith, length-append (number ++ coefs) payload, length-append number coefs)) place e)
     (λ bytes short. IsStop-packet_cut session records offset bytes more

@@ -34,12 +34,12 @@ pub record IsPart (before after : InputState) (part : List ℕ) : Type 0 where
   pub read : IsRead before.left after.left part
   pub no_fault : after.faults ≡ before.faults
 
--- the input had fewer bytes left than this
+-- the input had fewer bytes left than this, and they were read
 pub record EndsWithin (before after : InputState) (size : ℕ) : Type 0 where
   pub left : List ℕ
   pub told : IsTold before.left left
   pub short : length left < size
-  pub read : ReadsFewer before.left after.left size
+  pub read : IsRead before.left after.left left
   pub no_fault : after.faults ≡ before.faults
 
 -- a part of the record at this offset was filled, or the input ended in it, or a read failed

@@ -5,7 +5,7 @@ use Rattle.bats_io.specs.Streams.{InputState, IsTold, IsRead, IsEnded}
 use Rattle.bats_model.specs.Session.{SessionData}
 use Rattle.bats_model.specs.PacketFile.{IsPacketFile, IsItemAt, record_of, most_records}
 use Rattle.bats_model.specs.Refusal.{RefusesHeader, RefusesRecord}
-use Rattle.bats_format.specs.Taking.{ReadsWithin}
+use Rattle.bats_format.specs.Taking.{ReadsWithin, size_read}
 use Rattle.bats_model.specs.declared.item.Item.{Item}
 use Rattle.bats_model.specs.declared.read_end.ReadEnd.{ReadEnd}
 use Rattle.bats_model.specs.declared.read_end.ReadEnd.TheVariants as ends
@@ -79,7 +79,8 @@ abbrev pub RefusesAfter : Option SessionData → List Item → List ℕ → Read
 RefusesAfter None list input end = RefusesHeader input end
 RefusesAfter (Some session) list input end = RefusesRecord input session list end
 
--- the input, which is what was read and what was left, is refused so; it was read no further than one record goes
+-- the input, which is what was read and what was left, is refused so; of the refused record exactly as many bytes were
+-- read as the cause asks for, and no whole record
 pub record RefusesInput (before after : InputState) (reader reader' : ReaderData) (end : ReadEnd) : Type 0 where
   pub was_open : IsOpen reader
   pub refused : reader' ≡ record reader { refused = Some end }
@@ -87,7 +88,8 @@ pub record RefusesInput (before after : InputState) (reader reader' : ReaderData
   pub told : IsTold before.left left
   pub is_refused : (bytes : List ℕ) (list : List Item) → StandsFor bytes list reader
       → RefusesAfter reader.session list (bytes ++ left) end
-  pub read : ReadsWithin reader.session reader.offset before.left after.left []
+  pub read : ReadsWithin reader.session reader.records reader.offset before.left after.left []
+  pub size : length read.bytes ≡ size_read end left
   pub no_fault : after.faults ≡ before.faults
 
 -- a read failed, before a whole record was read
@@ -95,7 +97,7 @@ pub record CannotRead (before after : InputState) (reader reader' : ReaderData) 
   pub was_open : IsOpen reader
   pub refused : reader' ≡ record reader { refused = Some ends.ReadFault }
   pub fault : Rose before.faults after.faults
-  pub read : ReadsWithin reader.session reader.offset before.left after.left []
+  pub read : ReadsWithin reader.session reader.records reader.offset before.left after.left []
 
 -- memory ran out, before anything was read
 pub record LacksMemory (before after : InputState) (reader reader' : ReaderData) : Type 0 where

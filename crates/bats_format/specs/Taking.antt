@@ -1,5 +1,5 @@
 -- What the reading of one record leaves of a source, and what its answer is.
-use Rattle.std.specs.Prelude.{ℕ, ◌≡◌, ◌≢◌, ◌<◌, ◌≤◌, ◌+◌, ◌==◌, if◌then◌else◌, List, [], ◌∷◌, ◌++◌, length, take, Option, Some, None, Result, Ok, Err}
+use Rattle.std.specs.Prelude.{ℕ, ◌≡◌, ◌≢◌, ◌<◌, ◌≤◌, ◌+◌, ◌==◌, if◌then◌else◌, min, List, [], ◌∷◌, ◌++◌, length, Option, Some, None, Result, Ok, Err}
 use Rattle.bats_io.specs.Faults.{Rose}
 use Rattle.bats_io.specs.Streams.{InputState, IsTold, IsRead, IsEnded}
 use Rattle.bats_model.specs.Session.{SessionData, IsSession}
@@ -9,12 +9,29 @@ use Rattle.bats_model.specs.Refusal.{RefusesHeader, header_size, first_refusal}
 use Rattle.bats_model.specs.declared.item.Item.{Item}
 use Rattle.bats_model.specs.declared.read_end.ReadEnd.{ReadEnd}
 use Rattle.bats_model.specs.declared.read_end.ReadEnd.TheVariants as ends
+use Rattle.bats_format.specs.declared.buffers.Buffers.{Buffers}
 use Rattle.bats_format.specs.declared.records.Tag.{Tag}
 use Rattle.bats_format.specs.declared.records.Tag.TheVariants as tags
 
 -- bytes of a record at most: a packet's with 32 coefficients and 2,048 bytes of payload
 abbrev pub most_of_record : ℕ
 most_of_record = 2085
+
+-- buffers for a packet of m coefficients and t bytes of payload
+pub record FitsPacket (m t : ℕ) (buffers : Buffers) : Type 0 where
+  pub coefs : length buffers.coefs.items ≡ m
+  pub payload : length buffers.payload.items ≡ t
+
+-- buffers that are left over, if there are some, are for such a packet
+abbrev pub FitsSpare : ℕ → ℕ → Option Buffers → Type 0
+FitsSpare m t None = Unit {0}
+FitsSpare m t (Some buffers) = FitsPacket m t buffers
+
+-- and so in a reader, which has none before it has a session
+abbrev pub IsSpareOf : Option SessionData → Option Buffers → Type 0
+IsSpareOf session None = Unit {0}
+IsSpareOf None (Some buffers) = ⊥
+IsSpareOf (Some session) (Some buffers) = FitsPacket session.m session.t buffers
 
 -- no whole record stands at the front of these bytes, which are those at the offset: none of the session, or, where no
 -- session is known yet, no header of any
@@ -23,62 +40,64 @@ HasNoRecord None offset bytes = (session : SessionData) (more : List ℕ) → Is
 HasNoRecord (Some session) offset bytes =
     (item : Item) (more : List ℕ) → IsItemAt session offset item → bytes ≡ record_of session item ++ more → ⊥
 
--- how many bytes a record has at most that begins so: those of a header, where no session is known yet; and where no
--- record begins so, the first byte alone
-abbrev pub room_of : Option SessionData → List ℕ → ℕ
-room_of None bytes = header_size
-room_of (Some session) [] = 0
-room_of (Some session) (tag ∷ bytes) =
-    if tag == header_tag then header_size else if tag == packet_tag then 5 + session.m + session.t else 1
+-- how many bytes a record has at most that begins so, after so many: those of a header, where no session is known yet;
+-- and where no record may begin so, the first byte alone
+abbrev pub room_of : Option SessionData → ℕ → List ℕ → ℕ
+room_of None records [] = 0
+room_of None records (tag ∷ bytes) = if tag == header_tag then header_size else 1
+room_of (Some session) records [] = 0
+room_of (Some session) records (tag ∷ bytes) =
+    if records == most_records then 1
+    else if tag == header_tag then header_size else if tag == packet_tag then 5 + session.m + session.t else 1
 
 -- bytes were read: with those before, no whole record stands at their front, and they go no further than one
-pub record ReadsWithin (session : Option SessionData) (offset : ℕ) (before after : Option (List ℕ)) (begun : List ℕ) : Type 0 where
+pub record ReadsWithin (session : Option SessionData) (records offset : ℕ) (before after : Option (List ℕ)) (begun : List ℕ) : Type 0 where
   pub bytes : List ℕ
   pub read : IsRead before after bytes
-  pub within : length (begun ++ bytes) ≤ room_of session (begun ++ bytes)
+  pub within : length (begun ++ bytes) ≤ room_of session records (begun ++ bytes)
   pub none : HasNoRecord session offset (begun ++ bytes)
 
+-- how many bytes of these are read where they are refused so: a header's, which is judged whole, all of a record that is
+-- cut, and else one
+abbrev pub size_read : ReadEnd → List ℕ → ℕ
+size_read ends.NoHeader bytes = min 1 (length bytes)
+size_read (ends.BadHeader field) bytes = header_size
+size_read (ends.OtherSession at) bytes = header_size
+size_read (ends.Truncated at) bytes = length bytes
+size_read _ bytes = 1
+
 -- a read failed
-pub record FailsAt (before after : InputState) (session : Option SessionData) (offset : ℕ) (begun : List ℕ) : Type 0 where
+pub record FailsAt (before after : InputState) (session : Option SessionData) (records offset : ℕ) (begun : List ℕ) : Type 0 where
   pub fault : Rose before.faults after.faults
-  pub read : ReadsWithin session offset before.left after.left begun
+  pub read : ReadsWithin session records offset before.left after.left begun
 
 -- ---- the first record
 
--- so many bytes came of the first header, which are the session's
-pub record IsFirst (bytes : List ℕ) (count : ℕ) (session : SessionData) : Type 0 where
-  pub whole : count ≡ header_size
+-- the session's header was read, of which these bytes were read before
+pub record TakesHeader (before after : InputState) (begun : List ℕ) (session : SessionData) : Type 0 where
   pub is_session : IsSession session
-  pub header : bytes ≡ header_record session
-
--- the session of a first header of which so many bytes came, or why the input is refused, whatever follows a whole one
-abbrev pub FirstIs : List ℕ → ℕ → Result SessionData ReadEnd → Type 0
-FirstIs bytes count (Ok session) = IsFirst bytes count session
-FirstIs bytes count (Err end) =
-    (rest : List ℕ) → (count < header_size → rest ≡ []) → RefusesHeader (take count bytes ++ rest) end
-
--- the session's header was read
-pub record TakesHeader (before after : InputState) (session : SessionData) : Type 0 where
-  pub is_session : IsSession session
-  pub taken : IsRead before.left after.left (header_record session)
+  pub bytes : List ℕ
+  pub taken : IsRead before.left after.left bytes
+  pub header : begun ++ bytes ≡ header_record session
   pub no_fault : after.faults ≡ before.faults
 
--- the input is refused at its first record
-pub record StopsFirst (before after : InputState) (end : ReadEnd) : Type 0 where
+-- what was read before and what was left are refused at the first record
+pub record StopsFirst (before after : InputState) (begun : List ℕ) (end : ReadEnd) : Type 0 where
   pub left : List ℕ
   pub told : IsTold before.left left
-  pub refused : RefusesHeader left end
-  pub read : ReadsWithin None 0 before.left after.left []
+  pub refused : RefusesHeader (begun ++ left) end
+  pub read : ReadsWithin None 0 0 before.left after.left begun
+  pub size : length (begun ++ read.bytes) ≡ size_read end (begun ++ left)
   pub no_fault : after.faults ≡ before.faults
 
-abbrev pub FirstStops : InputState → InputState → ReadEnd → Type 0
-FirstStops before after ends.Memory = ⊥
-FirstStops before after ends.ReadFault = FailsAt before after None 0 []
-FirstStops before after end = StopsFirst before after end
+abbrev pub FirstStops : InputState → InputState → List ℕ → ReadEnd → Type 0
+FirstStops before after begun ends.Memory = ⊥
+FirstStops before after begun ends.ReadFault = FailsAt before after None 0 0 begun
+FirstStops before after begun end = StopsFirst before after begun end
 
-abbrev pub TakesFirst : InputState → InputState → Result SessionData ReadEnd → Type 0
-TakesFirst before after (Ok session) = TakesHeader before after session
-TakesFirst before after (Err end) = FirstStops before after end
+abbrev pub TakesFirst : InputState → InputState → List ℕ → Result SessionData ReadEnd → Type 0
+TakesFirst before after begun (Ok session) = TakesHeader before after begun session
+TakesFirst before after begun (Err end) = FirstStops before after begun end
 
 -- ---- a record after it
 
@@ -93,12 +112,13 @@ pub record StopsAt (before after : InputState) (session : SessionData) (records 
   pub left : List ℕ
   pub told : IsTold before.left left
   pub stop : IsStop session records offset (begun ++ left) end
-  pub read : ReadsWithin (Some session) offset before.left after.left begun
+  pub read : ReadsWithin (Some session) records offset before.left after.left begun
+  pub size : length (begun ++ read.bytes) ≡ size_read end (begun ++ left)
   pub no_fault : after.faults ≡ before.faults
 
 abbrev pub StopCause : InputState → InputState → SessionData → ℕ → ℕ → List ℕ → ReadEnd → Type 0
 StopCause before after session records offset begun ends.Memory = ⊥
-StopCause before after session records offset begun ends.ReadFault = FailsAt before after (Some session) offset begun
+StopCause before after session records offset begun ends.ReadFault = FailsAt before after (Some session) records offset begun
 StopCause before after session records offset begun end = StopsAt before after session records offset begun end
 
 -- a record of which these bytes were read before isn't given
@@ -114,7 +134,7 @@ byte_of tags.Packet = packet_tag
 abbrev pub TagIs : ℕ → ℕ → ℕ → Result Tag ReadEnd → Type 0
 TagIs byte records offset (Ok tag) = (byte ≡ byte_of tag) × (records ≢ most_records)
 TagIs byte records offset (Err end) =
-    (session : SessionData) (rest : List ℕ) → IsStop session records offset (byte ∷ rest) end
+    (session : SessionData) (rest : List ℕ) → IsStop session records offset (byte ∷ rest) end × (size_read end (byte ∷ rest) ≡ 1)
 
 -- the byte was read, and more records may come
 pub record TakesByte (before after : InputState) (records byte : ℕ) : Type 0 where

@@ -1,5 +1,5 @@
 use crate::Reader;
-use bats_io::MemSource;
+use bats_io::{MemSource, Source};
 use bats_model::{HeaderField, Item, ReadEnd};
 use std::alloc::Global;
 use std::test::Fail;
@@ -106,6 +106,33 @@ fn refuses_at_the_place(rt: HostRuntime) -> Result<(), Fail> {
     Ok(())
 }
 
+// What is left of a source, up to four bytes.
+fn left_of(source: &mut MemSource) -> [u8; 4] {
+    let mut left = [0; 4];
+    let _ = source.read(&mut left);
+    left
+}
+
+#[test]
+fn reads_one_byte_of_what_begins_no_record(rt: HostRuntime) -> Result<(), Fail> {
+    let alloc = rt.alloc();
+    let mut source = MemSource::new(b"XBTS".to_vec(alloc)?, 1000, Vec::new(alloc));
+    let mut reader = Reader::new();
+    assert!(rt; matches!(&reader.next(alloc, &mut source), Err(ReadEnd::NoHeader)));
+    assert_eq!(rt; &left_of(&mut source), b"BTS\0");
+    let mut source = MemSource::new(input(alloc, 32, b"QPBX")?, 1000, Vec::new(alloc));
+    let mut reader = Reader::new();
+    assert!(rt; matches!(&reader.next(alloc, &mut source), Ok(Some(_))));
+    assert!(rt;
+        matches!(
+            &reader.next(alloc, &mut source),
+            Err(ReadEnd::BadTag { .. })
+        )
+    );
+    assert_eq!(rt; &left_of(&mut source), b"PBX\0");
+    Ok(())
+}
+
 #[test]
 fn reads_repeats_of_the_header(rt: HostRuntime) -> Result<(), Fail> {
     let alloc = rt.alloc();
@@ -114,6 +141,11 @@ fn reads_repeats_of_the_header(rt: HostRuntime) -> Result<(), Fail> {
             count_items(alloc, input(alloc, 50, &FILE[..32])?, most),
             Ok(4)
         );
+        let mut between = input(alloc, 32, &FILE[..32])?;
+        between.extend_from_slice(&FILE[32..41])?;
+        between.extend_from_slice(&FILE[..32])?;
+        between.extend_from_slice(&FILE[41..])?;
+        assert_eq!(rt; count_items(alloc, between, most), Ok(5));
         let mut other = input(alloc, 50, &FILE[..32])?;
         if let Some(seed) = other.last_mut() {
             *seed = 1;

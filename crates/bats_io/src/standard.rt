@@ -136,26 +136,49 @@ mod tests {
     use std::io;
     use std::test::Fail;
 
+    // Fails at the first read, and gives the byte 7 at each later one.
     #[derive(Drop)]
-    struct Broken;
+    struct LateReader {
+        calls: u32,
+    }
 
-    impl Read for Broken {
-        fn read(&mut self, _buf: &mut [u8]) -> io::Result<usize> {
-            Err(io::Error::from(io::ErrorKind::Other))
+    impl Read for LateReader {
+        fn read(&mut self, buf: &mut [u8]) -> io::Result<usize> {
+            self.calls += 1;
+            if self.calls == 1 {
+                return Err(io::Error::from(io::ErrorKind::Interrupted));
+            }
+            buf[0] = 7;
+            Ok(1)
         }
     }
 
-    // Takes nothing, and fails at each flush.
+    // Fails at the first write and the first flush, or takes no byte at the first write, and does each later one.
     #[derive(Drop)]
-    struct Stuck;
+    struct LateWriter {
+        takes_nothing: bool,
+        writes: u32,
+        flushes: u32,
+    }
 
-    impl Write for Stuck {
-        fn write(&mut self, _piece: &[u8]) -> io::Result<usize> {
-            Ok(0)
+    impl Write for LateWriter {
+        fn write(&mut self, piece: &[u8]) -> io::Result<usize> {
+            self.writes += 1;
+            if self.writes > 1 {
+                return Ok(piece.len());
+            }
+            if self.takes_nothing {
+                return Ok(0);
+            }
+            Err(io::Error::from(io::ErrorKind::Interrupted))
         }
 
         fn flush(&mut self) -> io::Result<()> {
-            Err(io::Error::from(io::ErrorKind::Other))
+            self.flushes += 1;
+            if self.flushes > 1 {
+                return Ok(());
+            }
+            Err(io::Error::from(io::ErrorKind::Interrupted))
         }
     }
 
@@ -167,10 +190,20 @@ mod tests {
         assert_eq!(rt; &buf, b"abc\0");
         assert_eq!(rt; source.read(&mut buf), Ok(0));
         assert_eq!(rt; source.faults, 0);
-        let mut broken = StdSource::new(Broken);
-        assert_eq!(rt; broken.read(&mut buf), Err(Failed));
-        assert_eq!(rt; broken.faults, 1);
         Ok(())
+    }
+
+    #[test]
+    fn reads_once_a_call(rt: HostRuntime) {
+        let mut buf = [0; 4];
+        let mut source = StdSource::new(LateReader { calls: 0 });
+        assert_eq!(rt; source.read(&mut buf), Err(Failed));
+        assert_eq!(rt; source.faults, 1);
+        assert_eq!(rt; source.inner.calls, 1);
+        assert_eq!(rt; source.read(&mut buf), Ok(1));
+        assert_eq!(rt; &buf, b"\x07\0\0\0");
+        assert_eq!(rt; source.faults, 1);
+        assert_eq!(rt; source.inner.calls, 2);
     }
 
     #[test]
@@ -182,10 +215,45 @@ mod tests {
         assert!(rt; sink.flushed);
         assert_eq!(rt; sink.inner.as_slice(), b"abc".as_slice());
         assert_eq!(rt; sink.faults, 0);
-        let mut stuck = StdSink::new(Stuck);
-        assert_eq!(rt; stuck.write(b"abc"), Err(Failed));
-        assert_eq!(rt; stuck.flush(), Err(Failed));
-        assert_eq!(rt; stuck.faults, 2);
         Ok(())
+    }
+
+    #[test]
+    fn writes_once_a_call(rt: HostRuntime) {
+        for takes_nothing in [false, true] {
+            let writer = LateWriter {
+                takes_nothing,
+                writes: 0,
+                flushes: 0,
+            };
+            let mut sink = StdSink::new(writer);
+            assert_eq!(rt; sink.write(b"abc"), Err(Failed));
+            assert_eq!(rt; sink.faults, 1);
+            assert_eq!(rt; sink.inner.writes, 1);
+            assert_eq!(rt; sink.write(b"abc"), Ok(3));
+            assert_eq!(rt; sink.faults, 1);
+            assert_eq!(rt; sink.inner.writes, 2);
+            assert_eq!(rt; sink.inner.flushes, 0);
+        }
+    }
+
+    #[test]
+    fn flushes_once_a_call(rt: HostRuntime) {
+        let writer = LateWriter {
+            takes_nothing: false,
+            writes: 1,
+            flushes: 0,
+        };
+        let mut sink = StdSink::new(writer);
+        assert_eq!(rt; sink.write(b"abc"), Ok(3));
+        assert_eq!(rt; sink.flush(), Err(Failed));
+        assert!(rt; !sink.flushed);
+        assert_eq!(rt; sink.faults, 1);
+        assert_eq!(rt; sink.inner.flushes, 1);
+        assert_eq!(rt; sink.flush(), Ok(()));
+        assert!(rt; sink.flushed);
+        assert_eq!(rt; sink.faults, 1);
+        assert_eq!(rt; sink.inner.flushes, 2);
+        assert_eq!(rt; sink.inner.writes, 2);
     }
 }

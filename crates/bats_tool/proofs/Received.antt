@@ -1,5 +1,5 @@
 -- One item after another is received.
-use Rattle.std.proofs.Common.{ℕ, ◌≡◌, Bool, true, List, [], ◌∷◌, ◌++◌, length, ◌≤◌, Option, None, Some, Result, Ok, Err, refl, sym, ap, ◌∙◌, subst, inl, inr, append-nil}
+use Rattle.std.proofs.Common.{arith, ℕ, ◌≡◌, Bool, true, List, [], ◌∷◌, ◌++◌, length, ◌≤◌, Option, None, Some, Result, Ok, Err, refl, sym, ap, ◌∙◌, subst, inl, inr, append-nil}
 use Rattle.std.specs.Prelude.{IsSome}
 use Rattle.std.specs.List.{All}
 use Rattle.std.specs.Result.{IsErrAnd}
@@ -86,10 +86,11 @@ stops_at session list item n plain =
 
 -- what was received, and then no whole record
 reads_begun : (start x y : InputState) (r : ReaderData) (d : DecoderData) → HasReceived start x r d
-    → ReadsWithin r.session r.offset x.left y.left [] → ReadsRecords true start.left y.left
+    → ReadsWithin r.session r.records r.offset x.left y.left [] → ReadsRecords true start.left y.left
 reads_begun start x y r d h q =
     ReadsRecords-begun true r.session h.bytes h.list r start.left x.left y.left h.reader_stands.read
-    (subst (λ (s : Option SessionData). ArePlain s h.list) (sym h.session) h.plain) h.read r.offset h.reader_stands.offset q
+    (subst (λ (s : Option SessionData). ArePlain s h.list) (sym h.session) h.plain) h.read r.records r.offset
+    h.reader_stands.records h.reader_stands.offset q
 
 -- the session of an item that was read is the reader's
 session_of : (one two : Option SessionData) (s t : SessionData) → one ≡ Some s → (IsSome one → one ≡ Some t) → t ≡ s
@@ -127,7 +128,7 @@ reads_item start x y r r' d item h g plain =
     (subst (λ (s : Option SessionData). ArePlain s (h.list ++ item ∷ [])) (sym (g.session_is ∙ ap Some same))
     (plain_more d.session h.list item h.plain plain))
     (IsRead-after start.left x.left y.left h.bytes (record_of g.session item) h.read g.taken)
-    r'.offset stands.offset (ReadsWithin-same r'.session r'.offset y.left)
+    r'.records r'.offset stands.records stands.offset (ReadsWithin-same r'.session r'.records r'.offset y.left)
 
 -- what was received, and then exactly the record of a packet that isn't plain
 reads_not_plain : (start x y : InputState) (r r' : ReaderData) (d : DecoderData) (item : Item) → HasReceived start x r d
@@ -148,8 +149,8 @@ reads_not_plain start x y r r' d item h g n =
       records = file_of r.session d.session h.bytes h.list r h.reader_stands.read h.session;
       reads_on = h.plain;
       read = IsRead-after start.left x.left y.left h.bytes (record_of g.session item) h.read g.taken;
-      within = subst (λ (s : SessionData). length (record_of g.session item) ≤ room_of (Some s) (record_of g.session item)) same
-          (record_of-within g.session r.offset item file.is_session g.place);
+      within = subst (λ (s : SessionData). length (record_of g.session item) ≤ room_of (Some s) (length h.list) (record_of g.session item)) same
+          (record_of-within g.session (length h.list) r.offset item (omega (arith, g.counted, g.few, h.reader_stands.records)) file.is_session g.place);
       stops = λ other more at e.
           let first : record_of d.session item ++ [] ≡ record_of d.session other ++ more =
           append-nil (record_of d.session item) ∙ ap (λ (s : SessionData). record_of s item) (sym same) ∙ e in
@@ -229,7 +230,7 @@ pub Halts-refused : (start x y : InputState) (r r' : ReaderData) (d : DecoderDat
     → Refuses x y r r' end → Halts start y (halts.Input end)
 Halts-refused start x y r r' d ends.Memory h q = (
   ap (λ (s : InputState). s.faults) q.nothing_read ∙ h.no_fault,
-  reads_begun start x y r d h (unread r.session r.offset x y q.nothing_read),
+  reads_begun start x y r d h (unread r.session r.records r.offset x y q.nothing_read),
 )
 Halts-refused start x y r r' d ends.ReadFault h (inl q) = absurd (not_again h.is_open q)
 Halts-refused start x y r r' d ends.ReadFault h (inr q) =
@@ -294,11 +295,11 @@ ReceivesHeader-read x y r r' item s e g is decoder same stands =
     }
 
 -- no whole record was read
-reads_first : (x y : InputState) (r : ReaderData) → IsFresh r → ReadsWithin r.session r.offset x.left y.left [] → ReadsRecords true x.left y.left
+reads_first : (x y : InputState) (r : ReaderData) → IsFresh r → ReadsWithin r.session r.records r.offset x.left y.left [] → ReadsRecords true x.left y.left
 reads_first x y r e q =
     ReadsRecords-begun true r.session [] [] r x.left x.left y.left (fresh_stands r e).read
-    (subst (λ (s : Option SessionData). ArePlain s []) (sym (fresh_session r e)) tt) (IsRead-nothing x.left) r.offset
-    (fresh_stands r e).offset q
+    (subst (λ (s : Option SessionData). ArePlain s []) (sym (fresh_session r e)) tt) (IsRead-nothing x.left) r.records r.offset
+    (fresh_stands r e).records (fresh_stands r e).offset q
 
 refused_first : (x y : InputState) (r r' : ReaderData) (end : ReadEnd) → IsFresh r → RefusesInput x y r r' end → IsRefusedAfter x y end
 refused_first x y r r' end e q = record {
@@ -319,7 +320,7 @@ refused_first x y r r' end e q = record {
 pub ReceivesHeader-refused : (x y : InputState) (r r' : ReaderData) (end : ReadEnd) → IsFresh r → Refuses x y r r' end
     → ReceivesHeader x y r' (Err (halts.Input end))
 ReceivesHeader-refused x y r r' ends.Memory e q =
-    (ap (λ (s : InputState). s.faults) q.nothing_read, reads_first x y r e (unread r.session r.offset x y q.nothing_read))
+    (ap (λ (s : InputState). s.faults) q.nothing_read, reads_first x y r e (unread r.session r.records r.offset x y q.nothing_read))
 ReceivesHeader-refused x y r r' ends.ReadFault e (inl q) = absurd (not_again (fresh_open r e) q)
 ReceivesHeader-refused x y r r' ends.ReadFault e (inr q) = (q.fault, reads_first x y r e q.read)
 ReceivesHeader-refused x y r r' ends.NoHeader e (inl q) = absurd (not_again (fresh_open r e) q)
@@ -350,6 +351,6 @@ HasReceivedAll-end start x y r r' d h g =
       file = file_of r.session d.session h.bytes h.list r h.reader_stands.read h.session;
       decoder_stands = h.decoder_stands;
       plain = h.plain;
-      reads = reads_begun start x y r d h (ReadsWithin-nothing r.session r.offset x.left y.left g.nothing_read);
+      reads = reads_begun start x y r d h (ReadsWithin-nothing r.session r.records r.offset x.left y.left g.nothing_read);
       no_fault = g.no_fault ∙ h.no_fault;
     }

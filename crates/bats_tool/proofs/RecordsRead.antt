@@ -1,10 +1,12 @@
 -- How far a packet file was read.
-use Rattle.std.proofs.Common.{ℕ, ◌+◌, Bool, List, [], ◌≡◌, ◌≤◌, length, Option, None, Some, arith, sym, ap, subst, length-append}
+use Rattle.std.proofs.Common.{ℕ, ◌+◌, Bool, List, [], ◌∷◌, ◌≡◌, ◌<◌, ◌≤◌, length, drop, Option, None, Some, arith, refl, sym, ap, subst, length-append}
+use Rattle.std.proofs.lemmas.Bool.Decides.{nat_tests}
 use Rattle.bats_io.specs.Streams.{InputState, IsRead}
 use Rattle.bats_io.proofs.ReadLemmas.{IsRead-nothing, IsRead-after}
 use Rattle.bats_model.specs.Session.{SessionData, IsSession}
-use Rattle.bats_model.specs.Records.{header_record, packet_record}
-use Rattle.bats_model.specs.PacketFile.{IsItemAt, record_of}
+use Rattle.bats_model.specs.Records.{header_record, packet_record, header_tag, packet_tag}
+use Rattle.bats_model.specs.PacketFile.{IsItemAt, record_of, most_records}
+use Rattle.bats_model.specs.Refusal.{header_size}
 use Rattle.bats_model.specs.declared.item.Item.{Item}
 use Rattle.bats_model.specs.declared.item.Item.TheVariants as items
 use Rattle.bats_format.specs.Reader.{ReaderData, HasReadAs}
@@ -27,8 +29,8 @@ stops_within plain (Some session) list front begun offset e none = λ item more 
 -- the records that a reader has read, and then a part of the next
 unfoldable pub ReadsRecords-begun : (plain : Bool) (session : Option SessionData) (bytes : List ℕ) (list : List Item) (reader : ReaderData)
     (a b c : Option (List ℕ)) → HasReadAs session bytes list reader → ReadsOn plain session list → IsRead a b bytes
-    → (offset : ℕ) → offset ≡ length bytes → ReadsWithin session offset b c [] → ReadsRecords plain a c
-ReadsRecords-begun plain session bytes list reader a b c h on r offset e q = record {
+    → (records offset : ℕ) → records ≡ length list → offset ≡ length bytes → ReadsWithin session records offset b c [] → ReadsRecords plain a c
+ReadsRecords-begun plain session bytes list reader a b c h on r records offset n e q = record {
   session = session;
   list = list;
   front = bytes;
@@ -36,7 +38,7 @@ ReadsRecords-begun plain session bytes list reader a b c h on r offset e q = rec
   records = are_records session bytes list reader h;
   reads_on = on;
   read = IsRead-after a b c bytes q.bytes r q.read;
-  within = q.within;
+  within = subst (λ (count : ℕ). length q.bytes ≤ room_of session count q.bytes) n q.within;
   stops = stops_within plain session list bytes q.bytes offset e q.none;
 }
 
@@ -48,23 +50,34 @@ none_empty (Some session) offset = λ item more place e.
     absurd (omega (arith, ap length e, length-append (record_of session item) more, record_of-some session item))
 
 -- nothing more was read
-pub ReadsWithin-nothing : (session : Option SessionData) (offset : ℕ) (a b : Option (List ℕ)) → IsRead a b [] → ReadsWithin session offset a b []
-ReadsWithin-nothing session offset a b r = record { bytes = []; read = r; within = omega arith; none = none_empty session offset }
+pub ReadsWithin-nothing : (session : Option SessionData) (records offset : ℕ) (a b : Option (List ℕ)) → IsRead a b []
+    → ReadsWithin session records offset a b []
+ReadsWithin-nothing session records offset a b r = record { bytes = []; read = r; within = omega arith; none = none_empty session offset }
 
-pub ReadsWithin-same : (session : Option SessionData) (offset : ℕ) (a : Option (List ℕ)) → ReadsWithin session offset a a []
-ReadsWithin-same session offset a = ReadsWithin-nothing session offset a a (IsRead-nothing a)
+pub ReadsWithin-same : (session : Option SessionData) (records offset : ℕ) (a : Option (List ℕ)) → ReadsWithin session records offset a a []
+ReadsWithin-same session records offset a = ReadsWithin-nothing session records offset a a (IsRead-nothing a)
 
 -- a record goes no further than one
-pub record_of-within : (session : SessionData) (offset : ℕ) (item : Item) → IsSession session → IsItemAt session offset item
-    → length (record_of session item) ≤ room_of (Some session) (record_of session item)
+within-header : (session : SessionData) (records : ℕ) (bytes : List ℕ) → records < most_records → bytes ≡ header_tag ∷ drop 1 bytes
+    → length bytes ≤ header_size → length bytes ≤ room_of (Some session) records bytes
+within-header session records [] few e h = omega arith
+within-header session records (tag ∷ bytes) few e h = let is : tag ≡ header_tag = cc in grind (arith, nat_tests)
+
+within-packet : (session : SessionData) (records : ℕ) (bytes : List ℕ) → records < most_records → bytes ≡ packet_tag ∷ drop 1 bytes
+    → length bytes ≤ 5 + session.m + session.t → length bytes ≤ room_of (Some session) records bytes
+within-packet session records [] few e h = omega arith
+within-packet session records (tag ∷ bytes) few e h = let is : tag ≡ packet_tag = cc in grind (arith, nat_tests)
+
+pub record_of-within : (session : SessionData) (records offset : ℕ) (item : Item) → records < most_records → IsSession session
+    → IsItemAt session offset item → length (record_of session item) ≤ room_of (Some session) records (record_of session item)
 unfolding record_of header_record packet_record
-record_of-within session offset (items.Header at) is place =
-    let r : length (header_record session) ≤ 32 = omega (arith, length-header_record session is) in r
-record_of-within session offset (items.Packet at packet) is place =
-    let r : length (packet_record packet.batch packet.coefs packet.payload) ≤ 5 + session.m + session.t =
-    omega (arith, length-packet_record session packet place.1) in r
+record_of-within session records offset (items.Header at) few is place =
+    within-header session records (header_record session) few refl (omega (arith, length-header_record session is))
+record_of-within session records offset (items.Packet at packet) few is place =
+    within-packet session records (packet_record packet.batch packet.coefs packet.payload) few refl
+    (omega (arith, length-packet_record session packet place.1))
 
 -- an input of which nothing was read
-pub unread : (session : Option SessionData) (offset : ℕ) (x y : InputState) → y ≡ x → ReadsWithin session offset x.left y.left []
-unread session offset x y same =
-    subst (λ (i : InputState). ReadsWithin session offset x.left i.left []) (sym same) (ReadsWithin-same session offset x.left)
+pub unread : (session : Option SessionData) (records offset : ℕ) (x y : InputState) → y ≡ x → ReadsWithin session records offset x.left y.left []
+unread session records offset x y same =
+    subst (λ (i : InputState). ReadsWithin session records offset x.left i.left []) (sym same) (ReadsWithin-same session records offset x.left)

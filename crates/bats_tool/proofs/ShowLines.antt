@@ -78,7 +78,7 @@ Attempts-line_cut start now session bytes list reader stops.WriteFault file read
       input = bytes ++ rest;
       told = IsTold-after start.input.left now.input.left bytes rest read (IsTold-told_or now.input.left []);
       read = ReadsRecords-begun false (Some session) bytes list reader start.input.left now.input.left now.input.left file tt read
-          (length bytes) refl (ReadsWithin-same (Some session) (length bytes) now.input.left);
+          (length list) (length bytes) refl refl (ReadsWithin-same (Some session) (length list) (length bytes) now.input.left);
       as_far = record {
         input_fault = no_fault;
         output = record {
@@ -95,7 +95,7 @@ Attempts-line_cut start now session bytes list reader stops.Memory file read no_
       input = bytes ++ rest;
       told = IsTold-after start.input.left now.input.left bytes rest read (IsTold-told_or now.input.left []);
       read = ReadsRecords-begun false (Some session) bytes list reader start.input.left now.input.left now.input.left file tt read
-          (length bytes) refl (ReadsWithin-same (Some session) (length bytes) now.input.left);
+          (length list) (length bytes) refl refl (ReadsWithin-same (Some session) (length list) (length bytes) now.input.left);
       as_far = record {
         input_fault = no_fault;
         output = record {

@@ -120,7 +120,7 @@ Reaches-end x y z reader reader' h p finish s g same status line =
       line_is = line ∙ ap (λ (n : ℕ). show_line n p) headers
           ∙ ap (show_line (length s.list - length (packets_of s.list))) s.packets_are;
       reads = ReadsRecords-begun false reader.session s.bytes s.list reader x.input.left y.input.left z.input.left s.stands.read tt s.read
-          reader.offset s.stands.offset (ReadsWithin-nothing reader.session reader.offset y.input.left z.input.left g.nothing_read);
+          reader.records reader.offset s.stands.records s.stands.offset (ReadsWithin-nothing reader.session reader.records reader.offset y.input.left z.input.left g.nothing_read);
       read = still_ended y.input.left z.input.left left.1 g.nothing_read;
       input_fault = g.no_fault ∙ s.input_fault;
       output = ap (λ (o : OutputState). o.written) same ∙ s.output;
@@ -131,14 +131,14 @@ Reaches-end x y z reader reader' h p finish s g same status line =
 
 -- memory ran out, or a read failed: the lines so far stand
 pub Attempts-memory : (x y z : Ends) (reader : ReaderData) (h p : ℕ) → HasShown x y reader h p
-    → ReadsWithin reader.session reader.offset y.input.left z.input.left [] → z.input.faults ≡ y.input.faults → z.output ≡ y.output
+    → ReadsWithin reader.session reader.records reader.offset y.input.left z.input.left [] → z.input.faults ≡ y.input.faults → z.output ≡ y.output
     → Attempts (Some commands.Show) x z (Err stops.Memory)
 Attempts-memory x y z reader h p s reads no_fault same =
     let rest = told_or y.input.left [] in
     record {
       input = s.bytes ++ rest;
       told = IsTold-after x.input.left y.input.left s.bytes rest s.read (IsTold-told_or y.input.left []);
-      read = ReadsRecords-begun false reader.session s.bytes s.list reader x.input.left y.input.left z.input.left s.stands.read tt s.read reader.offset s.stands.offset reads;
+      read = ReadsRecords-begun false reader.session s.bytes s.list reader x.input.left y.input.left z.input.left s.stands.read tt s.read reader.records reader.offset s.stands.records s.stands.offset reads;
       as_far = record {
         input_fault = no_fault ∙ s.input_fault;
         output = record {
@@ -151,7 +151,7 @@ Attempts-memory x y z reader h p s reads no_fault same =
     }
 
 pub Attempts-read_fault : (x y z : Ends) (reader : ReaderData) (h p : ℕ) → HasShown x y reader h p
-    → ReadsWithin reader.session reader.offset y.input.left z.input.left [] → Rose y.input.faults z.input.faults → z.output ≡ y.output
+    → ReadsWithin reader.session reader.records reader.offset y.input.left z.input.left [] → Rose y.input.faults z.input.faults → z.output ≡ y.output
     → Attempts (Some commands.Show) x z (Err stops.ReadFault)
 unfolding ReadsRecords-begun
 Attempts-read_fault x y z reader h p s reads fault same =
@@ -159,13 +159,13 @@ Attempts-read_fault x y z reader h p s reads fault same =
     record {
       input = s.bytes ++ rest;
       told = IsTold-after x.input.left y.input.left s.bytes rest s.read (IsTold-told_or y.input.left []);
-      read = ReadsRecords-begun false reader.session s.bytes s.list reader x.input.left y.input.left z.input.left s.stands.read tt s.read reader.offset s.stands.offset reads;
+      read = ReadsRecords-begun false reader.session s.bytes s.list reader x.input.left y.input.left z.input.left s.stands.read tt s.read reader.records reader.offset s.stands.records s.stands.offset reads;
       as_far = record {
         input_fault = subst (λ (n : ℕ). Rose n z.input.faults) s.input_fault fault;
         output = record {
           part = lines_read reader.session s.list;
           is_part = record {
-            reads = ReadsRecords-begun false reader.session s.bytes s.list reader x.input.left y.input.left z.input.left s.stands.read tt s.read reader.offset s.stands.offset reads;
+            reads = ReadsRecords-begun false reader.session s.bytes s.list reader x.input.left y.input.left z.input.left s.stands.read tt s.read reader.records reader.offset s.stands.records s.stands.offset reads;
             lines = refl;
           };
           written = ap (λ (o : OutputState). o.written) same ∙ s.output;
@@ -209,7 +209,7 @@ of_input x y z reader reader' h p end finish s r same f = record {
   status_is = f.status;
   of_ending = f.of_ending;
   line_is = f.line;
-  reads = ReadsRecords-begun false reader.session s.bytes s.list reader x.input.left y.input.left z.input.left s.stands.read tt s.read reader.offset s.stands.offset r.read;
+  reads = ReadsRecords-begun false reader.session s.bytes s.list reader x.input.left y.input.left z.input.left s.stands.read tt s.read reader.records reader.offset s.stands.records s.stands.offset r.read;
   read = read_of_refusal end x.input.left z.input.left (subst IsOfEnding f.status f.of_ending);
   input_fault = r.no_fault ∙ s.input_fault;
   output = ap (λ (o : OutputState). o.written) same ∙ s.output;
@@ -257,7 +257,7 @@ pub Attempts-refused : (x y z : Ends) (reader reader' : ReaderData) (h p : ℕ) 
     → Attempts (Some commands.Show) x z (Err stop)
 Attempts-refused x y z reader reader' h p ends.Memory stop s r same e =
     of_stop x z stop stops.Memory e
-    (Attempts-memory x y z reader h p s (unread reader.session reader.offset y.input z.input r.nothing_read) (ap (λ (i : InputState). i.faults) r.nothing_read) same)
+    (Attempts-memory x y z reader h p s (unread reader.session reader.records reader.offset y.input z.input r.nothing_read) (ap (λ (i : InputState). i.faults) r.nothing_read) same)
 Attempts-refused x y z reader reader' h p ends.ReadFault stop s r same e =
     of_stop x z stop stops.ReadFault e (let q : CannotRead y.input z.input reader reader' = faulted y.input z.input reader reader' s.is_open r in
     Attempts-read_fault x y z reader h p s q.read q.fault same)

@@ -67,8 +67,7 @@ StopsWithin only_plain (Some session) list front begun =
     → (more ≡ []) × ¬ ReadsOn only_plain (Some session) (list ++ item ∷ [])
 
 -- all whole records were read after which the command reads on, and then no further than one more goes: a part of it, a
--- header that isn't the session's, a byte that begins none, in `sink` the one at which it stops, or up to 32 bytes
--- where no first header was read
+-- header that isn't the session's, in `sink` the one at which it stops, or one byte where none may begin so
 pub record ReadsRecords (only_plain : Bool) (before after : Option (List ℕ)) : Type 0 where
   pub session : Option SessionData
   pub list : List Item
@@ -77,7 +76,7 @@ pub record ReadsRecords (only_plain : Bool) (before after : Option (List ℕ)) :
   pub records : AreRecords session list front
   pub reads_on : ReadsOn only_plain session list
   pub read : IsRead before after (front ++ begun)
-  pub within : length begun ≤ room_of session begun
+  pub within : length begun ≤ room_of session (length list) begun
   pub stops : StopsWithin only_plain session list front begun
 
 -- the bytes are the lines of the records that were read

@@ -81,13 +81,13 @@ fn shows_the_records_before_a_refused_place(rt: HostRuntime) -> Result<(), Fail>
 
 #[test]
 fn shows_the_records_before_a_failed_read(rt: HostRuntime) -> Result<(), Fail> {
-    // Pieces of at most 3 bytes: 11 reads for the header, 5 for each packet, and one for the end.
-    for call in 1..23 {
-        let shown = if call < 12 {
+    // Pieces of at most 3 bytes: 1 + 11 reads for the header, 5 for each packet, and one for the end.
+    for call in 1..24 {
+        let shown = if call < 13 {
             0
-        } else if call < 17 {
+        } else if call < 18 {
             1
-        } else if call < 22 {
+        } else if call < 23 {
             2
         } else {
             3

@@ -281,12 +281,12 @@ fn takes_no_more_records(rt: HostRuntime) -> Result<(), Fail> {
 
 #[test]
 fn tells_each_read_that_fails(rt: HostRuntime) -> Result<(), Fail> {
-    // Pieces of at most 3 bytes: 11 reads for the header, 1 + 2 + 1 + 1 for each packet, and one for the end.
-    for call in 1..23 {
+    // Pieces of at most 3 bytes: 1 + 11 reads for the header, 1 + 2 + 1 + 1 for each packet, and one for the end.
+    for call in 1..24 {
         let run = make_run(&rt, "sink", &SMALL_OUTPUT, 3, [call, 0, 0])?;
         assert_left(&rt, &run, Status::ReadFault, &[], "bats: read fault\n");
     }
-    let run = make_run(&rt, "sink", &SMALL_OUTPUT, 3, [23, 0, 0])?;
+    let run = make_run(&rt, "sink", &SMALL_OUTPUT, 3, [24, 0, 0])?;
     assert_left(&rt, &run, Status::Done, &[1, 2, 3, 4], FILE_LINE);
     Ok(())
 }

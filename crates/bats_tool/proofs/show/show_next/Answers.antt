@@ -54,7 +54,7 @@ returns-in_err-done-in-Ok-None-clause-shown g c start shown =
     end_of {y = before.input} {z = after.input} c.in-Ok-None.field-0-is c.in-Ok-None.ensures in
     StepsTo-exit start after c.next.new.self c.args.counts.now.headers c.args.counts.now.packets stops.Memory _ c.from_residual-in_err-done-in-Ok-None.ensures.1
     (Attempts-memory start before after c.args.reader.now c.args.counts.now.headers c.args.counts.now.packets shown
-    (ReadsWithin-nothing c.args.reader.now.session c.args.reader.now.offset before.input.left after.input.left given.nothing_read) given.no_fault refl)
+    (ReadsWithin-nothing c.args.reader.now.session c.args.reader.now.records c.args.reader.now.offset before.input.left after.input.left given.nothing_read) given.no_fault refl)
 
 pub returns-in_ok-done-in-Ok-None-clause-shown : goal.returns-in_ok-done-in-Ok-None-clause-shown
 returns-in_ok-done-in-Ok-None-clause-shown g c start shown =
