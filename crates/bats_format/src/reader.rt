@@ -75,8 +75,8 @@ impl Reader {
         source: &mut S,
     ) -> Result<Option<Item>, ReadEnd>
         ensures { Nexts
-            (record { left = S.left source.old; faults = S.faults source.old })
-            (record { left = S.left source.new; faults = S.faults source.new })
+            (S.state source.old)
+            (S.state source.new)
             self.old self.new result }
     {
         if let Some(end) = self.refused {
@@ -96,8 +96,8 @@ impl Reader {
         requires open { IsOpen self.old }
         requires session { self.old.session ≡ None }
         ensures { Nexts
-            (record { left = S.left source.old; faults = S.faults source.old })
-            (record { left = S.left source.new; faults = S.faults source.new })
+            (S.state source.old)
+            (S.state source.new)
             self.old self.new result }
     {
         match take_first(source) {
@@ -124,8 +124,8 @@ impl Reader {
         requires open { IsOpen self.old }
         requires session { self.old.session ≡ Some session.now }
         ensures { Nexts
-            (record { left = S.left source.old; faults = S.faults source.old })
-            (record { left = S.left source.new; faults = S.faults source.new })
+            (S.state source.old)
+            (S.state source.new)
             self.old self.new result }
     {
         match take_record(alloc, source, session, self.records, self.offset) {
