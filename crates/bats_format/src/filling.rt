@@ -8,8 +8,8 @@ use bats_model::ReadEnd;
 /// bytes came, which stand at the front of the buffer.
 pub(crate) fn fill<S: Source>(source: &mut S, buffer: &mut [u8]) -> Result<usize, Failed>
     ensures { Fills
-        (record { left = S.left source.old; faults = S.faults source.old })
-        (record { left = S.left source.new; faults = S.faults source.new })
+        (S.state source.old)
+        (S.state source.new)
         buffer.new result }
 {
     let mut count = 0;
@@ -26,8 +26,8 @@ pub(crate) fn fill<S: Source>(source: &mut S, buffer: &mut [u8]) -> Result<usize
 /// Fills a part of the record that begins at the offset `at`.
 pub(crate) fn fill_part<S: Source>(source: &mut S, at: u64, part: &mut [u8]) -> Result<(), ReadEnd>
     ensures { FillsPart
-        (record { left = S.left source.old; faults = S.faults source.old })
-        (record { left = S.left source.new; faults = S.faults source.new })
+        (S.state source.old)
+        (S.state source.new)
         at part.new result }
 {
     match fill(source, part) {
@@ -49,8 +49,8 @@ pub(crate) fn fill_two<S: Source>(
     second: &mut [u8],
 ) -> Result<(), ReadEnd>
     ensures { FillsPart
-        (record { left = S.left source.old; faults = S.faults source.old })
-        (record { left = S.left source.new; faults = S.faults source.new })
+        (S.state source.old)
+        (S.state source.new)
         at (first.new ++ second.new) result }
 {
     fill_part(source, at, first)?;
@@ -66,8 +66,8 @@ pub(crate) fn fill_three<S: Source>(
     third: &mut [u8],
 ) -> Result<(), ReadEnd>
     ensures { FillsPart
-        (record { left = S.left source.old; faults = S.faults source.old })
-        (record { left = S.left source.new; faults = S.faults source.new })
+        (S.state source.old)
+        (S.state source.new)
         at (first.new ++ second.new ++ third.new) result }
 {
     fill_two(source, at, first, second)?;

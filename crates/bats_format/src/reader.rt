@@ -80,8 +80,8 @@ impl Reader {
         source: &mut S,
     ) -> Result<Option<Item>, ReadEnd>
         ensures { Nexts
-            (record { left = S.left source.old; faults = S.faults source.old })
-            (record { left = S.left source.new; faults = S.faults source.new })
+            (S.state source.old)
+            (S.state source.new)
             self.old self.new result }
     {
         if let Some(end) = self.refused {
@@ -101,8 +101,8 @@ impl Reader {
         requires open { IsOpen self.old }
         requires session { self.old.session ≡ None }
         ensures { Nexts
-            (record { left = S.left source.old; faults = S.faults source.old })
-            (record { left = S.left source.new; faults = S.faults source.new })
+            (S.state source.old)
+            (S.state source.new)
             self.old self.new result }
     {
         match take_first(source) {
@@ -129,8 +129,8 @@ impl Reader {
         requires open { IsOpen self.old }
         requires session { self.old.session ≡ Some session.now }
         ensures { Nexts
-            (record { left = S.left source.old; faults = S.faults source.old })
-            (record { left = S.left source.new; faults = S.faults source.new })
+            (S.state source.old)
+            (S.state source.new)
             self.old self.new result }
     {
         match take_record(

@@ -33,8 +33,8 @@ enum Tag {
 // Reads what follows the first byte of the first header.
 fn take_header<S: Source>(source: &mut S) -> Result<Session, ReadEnd>
     ensures { TakesFirst
-        (record { left = S.left source.old; faults = S.faults source.old })
-        (record { left = S.left source.new; faults = S.faults source.new })
+        (S.state source.old)
+        (S.state source.new)
         (header_tag ∷ []) result }
 {
     let mut bytes = [HEADER_TAG; 32];
@@ -48,8 +48,8 @@ fn take_header<S: Source>(source: &mut S) -> Result<Session, ReadEnd>
 /// Reads the first header of an input. Where it begins with another byte than a header, that byte alone is read.
 pub(crate) fn take_first<S: Source>(source: &mut S) -> Result<Session, ReadEnd>
     ensures { TakesFirst
-        (record { left = S.left source.old; faults = S.faults source.old })
-        (record { left = S.left source.new; faults = S.faults source.new })
+        (S.state source.old)
+        (S.state source.new)
         [] result }
 {
     let mut bytes = [0; 1];
@@ -84,8 +84,8 @@ fn tag_of(byte: u8, records: u32, at: u64) -> Result<Tag, ReadEnd>
 // Reads the first byte of a record after the first, which is `None` at the end of the input.
 fn take_tag<S: Source>(source: &mut S, records: u32, at: u64) -> Result<Option<Tag>, ReadEnd>
     ensures { TakesTag
-        (record { left = S.left source.old; faults = S.faults source.old })
-        (record { left = S.left source.new; faults = S.faults source.new })
+        (S.state source.old)
+        (S.state source.new)
         records at result }
 {
     let mut bytes = [0; 1];
@@ -103,8 +103,8 @@ fn take_tag<S: Source>(source: &mut S, records: u32, at: u64) -> Result<Option<T
 fn take_repeat<S: Source>(source: &mut S, session: &Session, at: u64) -> Result<Item, ReadEnd>
     requires { IsSession session.now }
     ensures { TakesBody
-        (record { left = S.left source.old; faults = S.faults source.old })
-        (record { left = S.left source.new; faults = S.faults source.new })
+        (S.state source.old)
+        (S.state source.new)
         session.now at header_tag result }
 {
     let header = header_bytes(session);
@@ -143,8 +143,8 @@ fn take_packet<S: Source>(
     requires fit { FitsPacket session.now.m session.now.t buffers }
     requires session { IsSession session.now }
     ensures { TakesBody
-        (record { left = S.left source.old; faults = S.faults source.old })
-        (record { left = S.left source.new; faults = S.faults source.new })
+        (S.state source.old)
+        (S.state source.new)
         session.now at packet_tag result }
 {
     let mut number = [0; 4];
@@ -174,8 +174,8 @@ fn take_body<S: Source>(
     requires spare { FitsSpare session.now.m session.now.t spare.old }
     requires session { IsSession session.now }
     ensures body { TakesBody
-        (record { left = S.left source.old; faults = S.faults source.old })
-        (record { left = S.left source.new; faults = S.faults source.new })
+        (S.state source.old)
+        (S.state source.new)
         session.now at (byte_of tag) result }
     ensures spare { FitsSpare session.now.m session.now.t spare.new }
 {
@@ -202,8 +202,8 @@ fn take_into<S: Source>(
     requires session { IsSession session.now }
     requires records { records ≤ most_records }
     ensures next { TakesRecord
-        (record { left = S.left source.old; faults = S.faults source.old })
-        (record { left = S.left source.new; faults = S.faults source.new })
+        (S.state source.old)
+        (S.state source.new)
         session.now records at result }
     ensures spare { FitsSpare session.now.m session.now.t spare.new }
 {
@@ -230,8 +230,8 @@ pub(crate) fn take_record<S: Source>(
     requires records { records ≤ most_records }
     requires spare { FitsSpare session.now.m session.now.t spare.old }
     ensures next { TakesRecord
-        (record { left = S.left source.old; faults = S.faults source.old })
-        (record { left = S.left source.new; faults = S.faults source.new })
+        (S.state source.old)
+        (S.state source.new)
         session.now records at result }
     ensures spare { FitsSpare session.now.m session.now.t spare.new }
 {

@@ -17,12 +17,12 @@ const PACKET: u8 = b'P';
 pub struct WriteFault;
 
 fn write_bytes<K: Sink>(sink: &mut K, bytes: &[u8]) -> Result<(), WriteFault>
-    ensures appended { OnOk result (Appends (K.written sink.old) (K.written sink.new) bytes.now) }
-    ensures unflushed { OnOk result (0 < length bytes.now → K.flushed sink.new ≡ false) }
-    ensures still_unflushed { OnOk result (K.flushed sink.old ≡ false → K.flushed sink.new ≡ false) }
-    ensures no_fault { OnOk result (K.faults sink.new ≡ K.faults sink.old) }
-    ensures failed { OnErr result (Rose (K.faults sink.old) (K.faults sink.new)) }
-    ensures prefix { OnErr result (AppendsPrefix (K.written sink.old) (K.written sink.new) bytes.now) }
+    ensures appended { OnOk result (Appends (K.state sink.old).written (K.state sink.new).written bytes.now) }
+    ensures unflushed { OnOk result (0 < length bytes.now → (K.state sink.new).flushed ≡ false) }
+    ensures still_unflushed { OnOk result ((K.state sink.old).flushed ≡ false → (K.state sink.new).flushed ≡ false) }
+    ensures no_fault { OnOk result ((K.state sink.new).faults ≡ (K.state sink.old).faults) }
+    ensures failed { OnErr result (Rose (K.state sink.old).faults (K.state sink.new).faults) }
+    ensures prefix { OnErr result (AppendsPrefix (K.state sink.old).written (K.state sink.new).written bytes.now) }
 {
     match write_whole(sink, bytes) {
         Ok(()) => Ok(()),
@@ -32,11 +32,11 @@ fn write_bytes<K: Sink>(sink: &mut K, bytes: &[u8]) -> Result<(), WriteFault>
 
 /// Writes the header record of a session, 32 bytes.
 pub fn write_header<K: Sink>(sink: &mut K, session: &Session) -> Result<(), WriteFault>
-    ensures appended { OnOk result (Appends (K.written sink.old) (K.written sink.new) (header_record session.now)) }
-    ensures unflushed { OnOk result (K.flushed sink.new ≡ false) }
-    ensures no_fault { OnOk result (K.faults sink.new ≡ K.faults sink.old) }
-    ensures failed { OnErr result (Rose (K.faults sink.old) (K.faults sink.new)) }
-    ensures prefix { OnErr result (AppendsPrefix (K.written sink.old) (K.written sink.new) (header_record session.now)) }
+    ensures appended { OnOk result (Appends (K.state sink.old).written (K.state sink.new).written (header_record session.now)) }
+    ensures unflushed { OnOk result ((K.state sink.new).flushed ≡ false) }
+    ensures no_fault { OnOk result ((K.state sink.new).faults ≡ (K.state sink.old).faults) }
+    ensures failed { OnErr result (Rose (K.state sink.old).faults (K.state sink.new).faults) }
+    ensures prefix { OnErr result (AppendsPrefix (K.state sink.old).written (K.state sink.new).written (header_record session.now)) }
 {
     write_bytes(sink, &header_bytes(session))
 }
@@ -58,12 +58,12 @@ pub fn write_packet<K: Sink>(
 ) -> Result<(), WriteFault>
     requires coefs { length packet.now.coefs ≡ session.now.m }
     requires payload { length packet.now.payload ≡ session.now.t }
-    ensures appended { OnOk result (Appends (K.written sink.old) (K.written sink.new)
+    ensures appended { OnOk result (Appends (K.state sink.old).written (K.state sink.new).written
         (packet_record packet.now.batch packet.now.coefs packet.now.payload)) }
-    ensures unflushed { OnOk result (K.flushed sink.new ≡ false) }
-    ensures no_fault { OnOk result (K.faults sink.new ≡ K.faults sink.old) }
-    ensures failed { OnErr result (Rose (K.faults sink.old) (K.faults sink.new)) }
-    ensures prefix { OnErr result (AppendsPrefix (K.written sink.old) (K.written sink.new)
+    ensures unflushed { OnOk result ((K.state sink.new).flushed ≡ false) }
+    ensures no_fault { OnOk result ((K.state sink.new).faults ≡ (K.state sink.old).faults) }
+    ensures failed { OnErr result (Rose (K.state sink.old).faults (K.state sink.new).faults) }
+    ensures prefix { OnErr result (AppendsPrefix (K.state sink.old).written (K.state sink.new).written
         (packet_record packet.now.batch packet.now.coefs packet.now.payload)) }
 {
     write_bytes(sink, &packet_front(packet.batch))?;

@@ -77,11 +77,11 @@ impl MemSink {
 }
 
 impl Sink for MemSink {
-    ghost written = { λ sink. Some sink.written };
-
-    ghost flushed = { λ sink. sink.flushed };
-
-    ghost faults = { λ sink. sink.faults };
+    ghost state = { λ sink. record {
+      written = Some sink.written;
+      flushed = sink.flushed;
+      faults = sink.faults;
+    } };
 
     fn write(&mut self, piece: &[u8]) -> Result<usize, Failed>
         requires { 0 < length piece.now }

@@ -26,9 +26,7 @@ impl<R: Read> StdSource<R> {
 }
 
 impl<R: Read> Source for StdSource<R> {
-    ghost left = { λ _. None };
-
-    ghost faults = { source_faults };
+    ghost state = { λ source. record { left = None; faults = source_faults source } };
 
     fn read(&mut self, buf: &mut [u8]) -> Result<usize, Failed>
         requires { 0 < length buf.old }
@@ -76,11 +74,11 @@ impl<W: Write> StdSink<W> {
 }
 
 impl<W: Write> Sink for StdSink<W> {
-    ghost written = { λ _. None };
-
-    ghost flushed = { sink_flushed };
-
-    ghost faults = { sink_faults };
+    ghost state = { λ sink. record {
+      written = None;
+      flushed = sink_flushed sink;
+      faults = sink_faults sink;
+    } };
 
     fn write(&mut self, piece: &[u8]) -> Result<usize, Failed>
         requires { 0 < length piece.now }

@@ -66,7 +66,7 @@ pub fn status_of_answer(answer: &Answer) -> Status
 
 // Writes two files, one after the other.
 fn write_both<O: Sink>(output: &mut O, first: &[u8], second: &[u8]) -> Result<(), Stop>
-    ensures { Writes (O.written output.old) (O.written output.new) (O.faults output.old) (O.faults output.new)
+    ensures { Writes (O.state output.old).written (O.state output.new).written (O.state output.old).faults (O.state output.new).faults
         (first.now ++ second.now) (result_err result) }
 {
     write_bytes(output, first)?;
@@ -75,7 +75,7 @@ fn write_both<O: Sink>(output: &mut O, first: &[u8], second: &[u8]) -> Result<()
 
 // Writes two files where both are asked for.
 fn write_pair<O: Sink>(output: &mut O, both: bool, first: &[u8], second: &[u8]) -> Result<(), Stop>
-    ensures { Writes (O.written output.old) (O.written output.new) (O.faults output.old) (O.faults output.new)
+    ensures { Writes (O.state output.old).written (O.state output.new).written (O.state output.old).faults (O.state output.new).faults
         (if both then (first.now ++ second.now) else []) (result_err result) }
 {
     if both {
@@ -86,7 +86,7 @@ fn write_pair<O: Sink>(output: &mut O, both: bool, first: &[u8], second: &[u8]) 
 
 /// Writes what an answer gives: the file, or both files where they are asked for, or nothing.
 pub fn write_answer<O: Sink>(output: &mut O, both: bool, answer: &Answer) -> Result<(), Stop>
-    ensures { Writes (O.written output.old) (O.written output.new) (O.faults output.old) (O.faults output.new)
+    ensures { Writes (O.state output.old).written (O.state output.new).written (O.state output.old).faults (O.state output.new).faults
         (answer_output both answer.now) (result_err result) }
 {
     match answer {

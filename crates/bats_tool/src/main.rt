@@ -58,16 +58,8 @@ fn run_counted<R: Threads + Sync, S: Source, O: Sink, N: Sink, C: Ledger, L: Led
     requires parts { counters.1.parts ≡ L.parts }
     requires some { 0 < counters.1.parts }
     ensures { IsRun (command_of (map string_bytes words.now.items))
-        (record {
-          input = record { left = S.left input.old; faults = S.faults input.old };
-          output = record { written = O.written output.old; flushed = O.flushed output.old; faults = O.faults output.old };
-          notes = record { written = N.written notes.old; flushed = N.flushed notes.old; faults = N.faults notes.old };
-        })
-        (record {
-          input = record { left = S.left input.new; faults = S.faults input.new };
-          output = record { written = O.written output.new; flushed = O.flushed output.new; faults = O.faults output.new };
-          notes = record { written = N.written notes.new; flushed = N.flushed notes.new; faults = N.faults notes.new };
-        })
+        (record { input = S.state input.old; output = O.state output.old; notes = N.state notes.old })
+        (record { input = S.state input.new; output = O.state output.new; notes = N.state notes.new })
         result }
 {
     let (coef_blank, blank) = counters;
@@ -95,16 +87,8 @@ fn run_over<R: Threads + Sync, S: Source, O: Sink, N: Sink>(
     notes: &mut N,
 ) -> Status
     ensures { IsRun (command_of (map string_bytes words.now.items))
-        (record {
-          input = record { left = S.left input.old; faults = S.faults input.old };
-          output = record { written = O.written output.old; flushed = O.flushed output.old; faults = O.faults output.old };
-          notes = record { written = N.written notes.old; flushed = N.flushed notes.old; faults = N.faults notes.old };
-        })
-        (record {
-          input = record { left = S.left input.new; faults = S.faults input.new };
-          output = record { written = O.written output.new; flushed = O.flushed output.new; faults = O.faults output.new };
-          notes = record { written = N.written notes.new; flushed = N.flushed notes.new; faults = N.faults notes.new };
-        })
+        (record { input = S.state input.old; output = O.state output.old; notes = N.state notes.old })
+        (record { input = S.state input.new; output = O.state output.new; notes = N.state notes.new })
         result }
 {
     let counters = (Blank::new(1), Blank::new(1));

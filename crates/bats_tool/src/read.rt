@@ -25,8 +25,8 @@ fn read_piece<S: Source>(
     requires room { 0 < room }
     requires buffer { 0 < length buffer.old }
     ensures { ReadsPiece
-        (record { left = S.left input.old; faults = S.faults input.old })
-        (record { left = S.left input.new; faults = S.faults input.new })
+        (S.state input.old)
+        (S.state input.new)
         file.old.items file.new.items room result }
 {
     let size = room.min(buffer.len());
@@ -49,8 +49,8 @@ fn read_up_to<S: Source>(
     requires most { most < 2 ^ 32 }
     requires buffer { 0 < length buffer.old }
     ensures { Reads
-        (record { left = S.left input.old; faults = S.faults input.old })
-        (record { left = S.left input.new; faults = S.faults input.new })
+        (S.state input.old)
+        (S.state input.new)
         most result }
 {
     let mut file = Vec::new(alloc);
@@ -67,8 +67,8 @@ fn read_up_to<S: Source>(
 pub fn read_file<S: Source>(alloc: Global, input: &mut S, most: usize) -> Result<Vec<u8>, Stop>
     requires { most < 2 ^ 32 }
     ensures { Reads
-        (record { left = S.left input.old; faults = S.faults input.old })
-        (record { left = S.left input.new; faults = S.faults input.new })
+        (S.state input.old)
+        (S.state input.new)
         most result }
 {
     let mut buffer = vec![in alloc; 0; chunk()]?;

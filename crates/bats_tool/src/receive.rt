@@ -77,8 +77,8 @@ fn receive_next<S: Source, C: Ledger, L: Ledger>(
     requires session { decoder.old.session ≡ session.now }
     requires reader { reader.old.session ≡ Some session.now }
     ensures received { (start : InputState)
-        → HasReceived start (record { left = S.left input.old; faults = S.faults input.old }) reader.old decoder.old
-        → ReceivesNext start (record { left = S.left input.new; faults = S.faults input.new }) reader.new decoder.new result }
+        → HasReceived start (S.state input.old) reader.old decoder.old
+        → ReceivesNext start (S.state input.new) reader.new decoder.new result }
     ensures counted { result ≡ Ok true → (reader.new.records ≡ reader.old.records + 1) × (reader.new.records ≤ most_records) }
     ensures same_session { result ≡ Ok true → (decoder.new.session ≡ session.now) × (reader.new.session ≡ Some session.now) }
 {
@@ -111,8 +111,8 @@ fn receive_header<S: Source>(
 ) -> Result<Session, Halt>
     requires fresh { IsFresh reader.old }
     ensures header { ReceivesHeader
-        (record { left = S.left input.old; faults = S.faults input.old })
-        (record { left = S.left input.new; faults = S.faults input.new })
+        (S.state input.old)
+        (S.state input.new)
         reader.new result }
     ensures session { IfOk result (λ session. reader.new.session ≡ Some session) }
 {
@@ -134,8 +134,8 @@ fn receive_rest<S: Source, C: Ledger, L: Ledger>(
 ) -> Result<Decoder, Halt>
     requires reader { reader.session ≡ Some session }
     ensures { (start : InputState)
-        → ReceivesHeader start (record { left = S.left input.old; faults = S.faults input.old }) reader (Ok session)
-        → Receives start (record { left = S.left input.new; faults = S.faults input.new }) result }
+        → ReceivesHeader start (S.state input.old) reader (Ok session)
+        → Receives start (S.state input.new) result }
 {
     let mut reader = reader;
     let mut decoder = Decoder::new(alloc, session);
@@ -163,8 +163,8 @@ pub fn receive<S: Source, C: Ledger, L: Ledger>(
     steps: &mut Steps<L>,
 ) -> Result<Decoder, Halt>
     ensures { Receives
-        (record { left = S.left input.old; faults = S.faults input.old })
-        (record { left = S.left input.new; faults = S.faults input.new })
+        (S.state input.old)
+        (S.state input.new)
         result }
 {
     let mut reader = Reader::new();

@@ -9,7 +9,7 @@ use bats_model::{Packet, Session};
 
 /// Writes these bytes.
 pub fn write_bytes<O: Sink>(output: &mut O, bytes: &[u8]) -> Result<(), Stop>
-    ensures { Writes (O.written output.old) (O.written output.new) (O.faults output.old) (O.faults output.new)
+    ensures { Writes (O.state output.old).written (O.state output.new).written (O.state output.old).faults (O.state output.new).faults
         bytes.now (result_err result) }
 {
     match write_whole(output, bytes) {
@@ -20,7 +20,7 @@ pub fn write_bytes<O: Sink>(output: &mut O, bytes: &[u8]) -> Result<(), Stop>
 
 /// Writes the header record of a session, 32 bytes.
 pub fn write_header<O: Sink>(output: &mut O, session: &Session) -> Result<(), Stop>
-    ensures { Writes (O.written output.old) (O.written output.new) (O.faults output.old) (O.faults output.new)
+    ensures { Writes (O.state output.old).written (O.state output.new).written (O.state output.old).faults (O.state output.new).faults
         (header_record session.now) (result_err result) }
 {
     match bats_format::write_header(output, session) {
@@ -33,7 +33,7 @@ pub fn write_header<O: Sink>(output: &mut O, session: &Session) -> Result<(), St
 pub fn write_packet<O: Sink>(output: &mut O, session: &Session, packet: &Packet) -> Result<(), Stop>
     requires coefs { length packet.now.coefs ≡ session.now.m }
     requires payload { length packet.now.payload ≡ session.now.t }
-    ensures { Writes (O.written output.old) (O.written output.new) (O.faults output.old) (O.faults output.new)
+    ensures { Writes (O.state output.old).written (O.state output.new).written (O.state output.old).faults (O.state output.new).faults
         (packet_record packet.now.batch packet.now.coefs packet.now.payload) (result_err result) }
 {
     match bats_format::write_packet(output, session, packet) {

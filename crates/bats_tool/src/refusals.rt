@@ -94,8 +94,8 @@ pub fn refused(alloc: Global, end: ReadEnd) -> Result<Finish, Stop>
 /// Flushes the output.
 pub fn flush<O: Sink>(output: &mut O) -> Result<(), Stop>
     ensures { Flushes
-        (record { written = O.written output.old; flushed = O.flushed output.old; faults = O.faults output.old })
-        (record { written = O.written output.new; flushed = O.flushed output.new; faults = O.faults output.new })
+        (O.state output.old)
+        (O.state output.new)
         result }
 {
     match output.flush() {

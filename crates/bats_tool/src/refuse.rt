@@ -9,10 +9,10 @@ use bats_io::Sink;
 /// of the cause. A flush that fails is a cause of its own.
 pub fn refuse<O: Sink, N: Sink>(output: &mut O, notes: &mut N, stop: Stop) -> Status
     ensures { RefusesBy stop
-        (record { written = O.written output.old; flushed = O.flushed output.old; faults = O.faults output.old })
-        (record { written = O.written output.new; flushed = O.flushed output.new; faults = O.faults output.new })
-        (record { written = N.written notes.old; flushed = N.flushed notes.old; faults = N.faults notes.old })
-        (record { written = N.written notes.new; flushed = N.flushed notes.new; faults = N.faults notes.new })
+        (O.state output.old)
+        (O.state output.new)
+        (N.state notes.old)
+        (N.state notes.new)
         result }
 {
     let stop = match stop {

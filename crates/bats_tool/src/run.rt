@@ -30,14 +30,8 @@ fn attempt<R: Threads + Sync, S: Source, O: Sink, C: Ledger, L: Ledger>(
     steps: &mut Steps<L>,
 ) -> Result<Finish, Stop>
     ensures { Attempts (command_of (map string_bytes words.now.items))
-        (record {
-          input = record { left = S.left input.old; faults = S.faults input.old };
-          output = record { written = O.written output.old; flushed = O.flushed output.old; faults = O.faults output.old };
-        })
-        (record {
-          input = record { left = S.left input.new; faults = S.faults input.new };
-          output = record { written = O.written output.new; flushed = O.flushed output.new; faults = O.faults output.new };
-        })
+        (record { input = S.state input.old; output = O.state output.old })
+        (record { input = S.state input.new; output = O.state output.new })
         result }
 {
     match parse(words) {
@@ -83,16 +77,8 @@ pub fn run<R: Threads + Sync, S: Source, O: Sink, N: Sink, C: Ledger, L: Ledger>
     steps: &mut Steps<L>,
 ) -> Status
     ensures { IsRun (command_of (map string_bytes words.now.items))
-        (record {
-          input = record { left = S.left input.old; faults = S.faults input.old };
-          output = record { written = O.written output.old; flushed = O.flushed output.old; faults = O.faults output.old };
-          notes = record { written = N.written notes.old; flushed = N.flushed notes.old; faults = N.faults notes.old };
-        })
-        (record {
-          input = record { left = S.left input.new; faults = S.faults input.new };
-          output = record { written = O.written output.new; flushed = O.flushed output.new; faults = O.faults output.new };
-          notes = record { written = N.written notes.new; flushed = N.flushed notes.new; faults = N.faults notes.new };
-        })
+        (record { input = S.state input.old; output = O.state output.old; notes = N.state notes.old })
+        (record { input = S.state input.new; output = O.state output.new; notes = N.state notes.new })
         result }
 {
     match attempt(rt, alloc, words, input, output, coef_steps, steps) {

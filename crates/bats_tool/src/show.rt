@@ -127,7 +127,7 @@ fn write_item<O: Sink>(
     output: &mut O,
     item: &Item,
 ) -> Result<(), Stop>
-    ensures { Writes (O.written output.old) (O.written output.new) (O.faults output.old) (O.faults output.new)
+    ensures { Writes (O.state output.old).written (O.state output.new).written (O.state output.old).faults (O.state output.new).faults
         (item_line session.now item.now) (result_err result) }
 {
     let line = item_text(alloc, session, item)?;
@@ -143,7 +143,7 @@ fn show_item<O: Sink>(
 ) -> Result<(), Stop>
     requires { IsSome reader.now.session }
     ensures { (session : SessionData) → reader.now.session ≡ Some session
-        → Writes (O.written output.old) (O.written output.new) (O.faults output.old) (O.faults output.new)
+        → Writes (O.state output.old).written (O.state output.new).written (O.state output.old).faults (O.state output.new).faults
         (item_line session item.now) (result_err result) }
 {
     match reader.session() {
@@ -185,16 +185,10 @@ fn show_next<S: Source, O: Sink>(
     ensures counted { result ≡ Ok None → counts.new.headers + counts.new.packets ≡ reader.new.records }
     ensures shown { (start : Ends)
         → HasShown start
-        (record {
-          input = record { left = S.left input.old; faults = S.faults input.old };
-          output = record { written = O.written output.old; flushed = O.flushed output.old; faults = O.faults output.old };
-        })
+        (record { input = S.state input.old; output = O.state output.old })
         reader.old counts.old.headers counts.old.packets
         → StepsTo start
-        (record {
-          input = record { left = S.left input.new; faults = S.faults input.new };
-          output = record { written = O.written output.new; flushed = O.flushed output.new; faults = O.faults output.new };
-        })
+        (record { input = S.state input.new; output = O.state output.new })
         reader.new counts.new.headers counts.new.packets result }
 {
     match reader.next(alloc, input) {
@@ -215,14 +209,8 @@ fn show_records<S: Source, O: Sink>(
     output: &mut O,
 ) -> Result<Finish, Stop>
     ensures { Shows
-        (record {
-          input = record { left = S.left input.old; faults = S.faults input.old };
-          output = record { written = O.written output.old; flushed = O.flushed output.old; faults = O.faults output.old };
-        })
-        (record {
-          input = record { left = S.left input.new; faults = S.faults input.new };
-          output = record { written = O.written output.new; flushed = O.flushed output.new; faults = O.faults output.new };
-        })
+        (record { input = S.state input.old; output = O.state output.old })
+        (record { input = S.state input.new; output = O.state output.new })
         result }
 {
     let mut reader = Reader::new();
@@ -244,14 +232,8 @@ pub fn show<S: Source, O: Sink>(
     output: &mut O,
 ) -> Result<Finish, Stop>
     ensures { Attempts (Some commands.Show)
-        (record {
-          input = record { left = S.left input.old; faults = S.faults input.old };
-          output = record { written = O.written output.old; flushed = O.flushed output.old; faults = O.faults output.old };
-        })
-        (record {
-          input = record { left = S.left input.new; faults = S.faults input.new };
-          output = record { written = O.written output.new; flushed = O.flushed output.new; faults = O.faults output.new };
-        })
+        (record { input = S.state input.old; output = O.state output.old })
+        (record { input = S.state input.new; output = O.state output.new })
         result }
 {
     let finish = show_records(alloc, input, output)?;

@@ -39,9 +39,9 @@ fn finish_of(alloc: Global, solved: &Solved) -> Result<Finish, AllocError>
 
 // Writes what an answer gives, and flushes the output.
 fn send_answer<O: Sink>(output: &mut O, both: bool, answer: &Answer) -> Result<(), Stop>
-    ensures written { Writes (O.written output.old) (O.written output.new) (O.faults output.old) (O.faults output.new)
+    ensures written { Writes (O.state output.old).written (O.state output.new).written (O.state output.old).faults (O.state output.new).faults
         (answer_output both answer.now) (result_err result) }
-    ensures flushed { OnOk result (O.flushed output.new ≡ true) }
+    ensures flushed { OnOk result ((O.state output.new).flushed ≡ true) }
 {
     write_answer(output, both, answer)?;
     flush(output)
@@ -60,8 +60,8 @@ fn answer<R: Threads + Sync, O: Sink, C: Ledger, L: Ledger>(
 ) -> Result<Finish, Stop>
     requires { HasWorkers workers }
     ensures { (packets : List Packet) → StandsFor packets decoder → AnswersAs both decoder packets
-        (record { written = O.written output.old; flushed = O.flushed output.old; faults = O.faults output.old })
-        (record { written = O.written output.new; flushed = O.flushed output.new; faults = O.faults output.new })
+        (O.state output.old)
+        (O.state output.new)
         result }
 {
     let solved = decoder.solve(rt, workers, coef_steps, steps)?;
@@ -86,8 +86,8 @@ fn finish_of_halt(alloc: Global, halt: Halt) -> Result<Finish, Stop>
 // Ends the run whose receiving halts: nothing is written.
 fn end_halted<O: Sink>(alloc: Global, halt: Halt, output: &mut O) -> Result<Finish, Stop>
     ensures { EndsHalted halt
-        (record { written = O.written output.old; flushed = O.flushed output.old; faults = O.faults output.old })
-        (record { written = O.written output.new; flushed = O.flushed output.new; faults = O.faults output.new })
+        (O.state output.old)
+        (O.state output.new)
         result }
 {
     let finish = finish_of_halt(alloc, halt)?;
@@ -109,14 +109,8 @@ pub fn sink<R: Threads + Sync, S: Source, O: Sink, C: Ledger, L: Ledger>(
 ) -> Result<Finish, Stop>
     requires { HasWorkers workers }
     ensures { Attempts (Some (commands.Sink workers both))
-        (record {
-          input = record { left = S.left input.old; faults = S.faults input.old };
-          output = record { written = O.written output.old; flushed = O.flushed output.old; faults = O.faults output.old };
-        })
-        (record {
-          input = record { left = S.left input.new; faults = S.faults input.new };
-          output = record { written = O.written output.new; flushed = O.flushed output.new; faults = O.faults output.new };
-        })
+        (record { input = S.state input.old; output = O.state output.old })
+        (record { input = S.state input.new; output = O.state output.new })
         result }
 {
     match receive(alloc, input, coef_steps, steps) {

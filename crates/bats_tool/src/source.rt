@@ -45,7 +45,7 @@ fn write_coded<O: Sink>(
     requires session { encoder.now.session ≡ session.now }
     requires batch { batch.now ≡ batch_of encoder.now.session batch.now.number }
     requires column { j < encoder.now.session.m }
-    ensures { Writes (O.written output.old) (O.written output.new) (O.faults output.old) (O.faults output.new)
+    ensures { Writes (O.state output.old).written (O.state output.new).written (O.state output.old).faults (O.state output.new).faults
         (coded_record encoder.now.session encoder.now.file batch.now.number j) (result_err result) }
 {
     let packet = encoder.coded(batch, j)?;
@@ -61,7 +61,7 @@ fn write_batch<O: Sink>(
 ) -> Result<(), Stop>
     requires session { encoder.now.session ≡ session.now }
     requires batch { batch.now ≡ batch_of encoder.now.session batch.now.number }
-    ensures { Writes (O.written output.old) (O.written output.new) (O.faults output.old) (O.faults output.new)
+    ensures { Writes (O.state output.old).written (O.state output.new).written (O.state output.old).faults (O.state output.new).faults
         (batch_records encoder.now.session encoder.now.file batch.now.number) (result_err result) }
 {
     for j in 0..u32::from(session.m()) {
@@ -79,7 +79,7 @@ fn write_numbered<O: Sink>(
     number: u32,
 ) -> Result<(), Stop>
     requires session { encoder.now.session ≡ session.now }
-    ensures { Writes (O.written output.old) (O.written output.new) (O.faults output.old) (O.faults output.new)
+    ensures { Writes (O.state output.old).written (O.state output.new).written (O.state output.old).faults (O.state output.new).faults
         (batch_records encoder.now.session encoder.now.file number) (result_err result) }
 {
     let batch = batch(alloc, session, number)?;
@@ -97,7 +97,7 @@ fn write_batches<O: Sink>(
 ) -> Result<(), Stop>
     requires session { encoder.now.session ≡ session.now }
     requires count { first + batches < 2 ^ 32 }
-    ensures { Writes (O.written output.old) (O.written output.new) (O.faults output.old) (O.faults output.new)
+    ensures { Writes (O.state output.old).written (O.state output.new).written (O.state output.old).faults (O.state output.new).faults
         (packet_records encoder.now.session encoder.now.file first batches) (result_err result) }
 {
     for i in 0..batches {
@@ -117,9 +117,9 @@ fn write_output<O: Sink>(
 ) -> Result<(), Stop>
     requires session { encoder.now.session ≡ session.now }
     requires count { first + batches < 2 ^ 32 }
-    ensures written { Writes (O.written output.old) (O.written output.new) (O.faults output.old) (O.faults output.new)
+    ensures written { Writes (O.state output.old).written (O.state output.new).written (O.state output.old).faults (O.state output.new).faults
         (source_output encoder.now.session encoder.now.file first batches) (result_err result) }
-    ensures flushed { OnOk result (O.flushed output.new ≡ true) }
+    ensures flushed { OnOk result ((O.state output.new).flushed ≡ true) }
 {
     write_header(output, session)?;
     write_batches(alloc, output, session, encoder, first, batches)?;
@@ -183,8 +183,8 @@ fn read_session<S: Source>(
 ) -> Result<(Session, Vec<u8>), Stop>
     requires { HasRanges options.now }
     ensures { Prepares options.now
-        (record { left = S.left input.old; faults = S.faults input.old })
-        (record { left = S.left input.new; faults = S.faults input.new })
+        (S.state input.old)
+        (S.state input.new)
         result }
 {
     let file = read_file(alloc, input, MAX_SYMBOLS * options.t as usize)?;
@@ -201,14 +201,8 @@ pub fn source<S: Source, O: Sink>(
 ) -> Result<Finish, Stop>
     requires { HasRanges options.now }
     ensures { Attempts (Some (source_command options.now))
-        (record {
-          input = record { left = S.left input.old; faults = S.faults input.old };
-          output = record { written = O.written output.old; flushed = O.flushed output.old; faults = O.faults output.old };
-        })
-        (record {
-          input = record { left = S.left input.new; faults = S.faults input.new };
-          output = record { written = O.written output.new; flushed = O.flushed output.new; faults = O.faults output.new };
-        })
+        (record { input = S.state input.old; output = O.state output.old })
+        (record { input = S.state input.new; output = O.state output.new })
         result }
 {
     let (session, file) = read_session(alloc, options, input)?;

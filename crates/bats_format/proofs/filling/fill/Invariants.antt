@@ -5,8 +5,8 @@ use Rattle.bats_format.proofs.filling.fill.Given as goal
 abbrev pub invariant-loop-count : goal.invariant-loop-count
 invariant-loop-count g l = record {
   within : l.count ≤ length l.buffer;
-  read : IsRead (g.S.Source.left l.initial.source) (g.S.Source.left l.source) (take l.count l.buffer);
-  no_fault : g.S.Source.faults l.source ≡ g.S.Source.faults l.initial.source;
+  read : IsRead (g.S.Source.state l.initial.source).left (g.S.Source.state l.source).left (take l.count l.buffer);
+  no_fault : (g.S.Source.state l.source).faults ≡ (g.S.Source.state l.initial.source).faults;
 }
 
 abbrev pub decreases-loop-count : goal.decreases-loop-count

@@ -28,11 +28,11 @@ returns-clause-appended g c =
     let packet = c.args.packet.now in
     let front : List ℕ = c.packet_front.result in
     let whole = packet_record-parts packet.batch front packet.coefs packet.payload c.packet_front.ensures in
-    let two = Appends-after (g.K.Sink.written c.args.sink.now) front packet.coefs c.in_ok-write_bytes.ensures.appended
+    let two = Appends-after (g.K.Sink.state c.args.sink.now).written front packet.coefs c.in_ok-write_bytes.ensures.appended
     (subst (Appends _ _) c.as_slice.ensures.value c.in_ok-write_bytes-2.ensures.appended) in
     on_ok_weaker c.write_bytes-3.result
     (λ last. subst (Appends _ _) (sym whole)
-    (Appends-after (g.K.Sink.written c.args.sink.now) (front ++ packet.coefs) packet.payload two
+    (Appends-after (g.K.Sink.state c.args.sink.now).written (front ++ packet.coefs) packet.payload two
     (subst (Appends _ _) c.as_slice-2.ensures.value last)))
     c.write_bytes-3.ensures.appended
 
@@ -41,7 +41,7 @@ returns-clause-prefix g c =
     let packet = c.args.packet.now in
     let front : List ℕ = c.packet_front.result in
     let whole = packet_record-parts packet.batch front packet.coefs packet.payload c.packet_front.ensures in
-    let two = Appends-after (g.K.Sink.written c.args.sink.now) front packet.coefs c.in_ok-write_bytes.ensures.appended
+    let two = Appends-after (g.K.Sink.state c.args.sink.now).written front packet.coefs c.in_ok-write_bytes.ensures.appended
     (subst (Appends _ _) c.as_slice.ensures.value c.in_ok-write_bytes-2.ensures.appended) in
     on_err_weaker c.write_bytes-3.result
     (λ last. subst (AppendsPrefix _ _) (sym whole)

@@ -4,12 +4,10 @@ use Rattle.bats_tool.proofs.read.read_up_to.Goals as goal
 
 pub returns-in_err-read_piece : goal.returns-in_err-read_piece
 returns-in_err-read_piece g c =
-    let left = g.S.Source.left in
-    let faults = g.S.Source.faults in
     Reads-exit
-    (record { left = left c.args.input.now; faults = faults c.args.input.now })
-    (record { left = left c.loop-file.input; faults = faults c.loop-file.input })
-    (record { left = left c.read_piece.new.input; faults = faults c.read_piece.new.input })
+    (g.S.Source.state c.args.input.now)
+    (g.S.Source.state c.loop-file.input)
+    (g.S.Source.state c.read_piece.new.input)
     c.args.most (c.args.most + 1 - c.len-in-loop-file.result) c.loop-file.file.items c.read_piece.new.file.items
     c.in_err-read_piece.field-0.0 c.from_residual.result
     c.loop-file.invariant.read c.loop-file.invariant.no_fault (omega arith) (omega arith)

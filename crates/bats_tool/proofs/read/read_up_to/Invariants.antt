@@ -4,9 +4,9 @@ use Rattle.bats_tool.proofs.read.read_up_to.Given as goal
 
 abbrev pub invariant-loop-file : goal.invariant-loop-file
 invariant-loop-file g l = record {
-  read : IsRead (g.S.Source.left l.fn.input) (g.S.Source.left l.input) l.file.items;
+  read : IsRead (g.S.Source.state l.fn.input).left (g.S.Source.state l.input).left l.file.items;
   within : vec_len l.file ≤ l.most + 1;
-  no_fault : g.S.Source.faults l.input ≡ g.S.Source.faults l.fn.input;
+  no_fault : (g.S.Source.state l.input).faults ≡ (g.S.Source.state l.fn.input).faults;
 }
 
 abbrev pub decreases-loop-file : goal.decreases-loop-file

@@ -10,8 +10,8 @@ use Rattle.bats_tool.proofs.receive.receive_header.Goals.{in-Ok-Some, in-Err}
 
 pub returns-clause-header : goal.returns-clause-header
 returns-clause-header g c =
-    let x : InputState = record { left = g.S.Source.left c.args.input.now; faults = g.S.Source.faults c.args.input.now } in
-    let y : InputState = record { left = g.S.Source.left c.next.new.source; faults = g.S.Source.faults c.next.new.source } in
+    let x : InputState = g.S.Source.state c.args.input.now in
+    let y : InputState = g.S.Source.state c.next.new.source in
     elim c.match-next.branch [
       | in-Ok-Some w ↦ subst (λ (z : Result SessionData Halt). ReceivesHeader x y c.next.new.self z) (sym w.result-is)
           (ReceivesHeader-read x y c.args.reader.now c.next.new.self w.in-Ok-Some.field-0-0 w.session_of.result c.requires.fresh

@@ -8,8 +8,8 @@ use Rattle.bats_tool.proofs.receive.receive_next.Goals as goal
 
 pub returns-in_err-take_item-in-Ok-Some-clause-received : goal.returns-in_err-take_item-in-Ok-Some-clause-received
 returns-in_err-take_item-in-Ok-Some-clause-received g c start h =
-    let x : InputState = record { left = g.S.Source.left c.args.input.now; faults = g.S.Source.faults c.args.input.now } in
-    let y : InputState = record { left = g.S.Source.left c.next.new.source; faults = g.S.Source.faults c.next.new.source } in
+    let x : InputState = g.S.Source.state c.args.input.now in
+    let y : InputState = g.S.Source.state c.next.new.source in
     ReceivesNext-exit start
     x
     y
@@ -22,8 +22,8 @@ returns-in_err-take_item-in-Ok-Some-clause-received g c start h =
 
 pub returns-in_ok-take_item-in-Ok-Some-clause-received : goal.returns-in_ok-take_item-in-Ok-Some-clause-received
 returns-in_ok-take_item-in-Ok-Some-clause-received g c start h =
-    let x : InputState = record { left = g.S.Source.left c.args.input.now; faults = g.S.Source.faults c.args.input.now } in
-    let y : InputState = record { left = g.S.Source.left c.next.new.source; faults = g.S.Source.faults c.next.new.source } in
+    let x : InputState = g.S.Source.state c.args.input.now in
+    let y : InputState = g.S.Source.state c.next.new.source in
     HasReceived-more start
     x
     y
@@ -34,8 +34,8 @@ returns-in_ok-take_item-in-Ok-Some-clause-received g c start h =
 
 pub returns-in-Err-clause-received : goal.returns-in-Err-clause-received
 returns-in-Err-clause-received g c start h =
-    let x : InputState = record { left = g.S.Source.left c.args.input.now; faults = g.S.Source.faults c.args.input.now } in
-    let y : InputState = record { left = g.S.Source.left c.next.new.source; faults = g.S.Source.faults c.next.new.source } in
+    let x : InputState = g.S.Source.state c.args.input.now in
+    let y : InputState = g.S.Source.state c.next.new.source in
     Halts-refused start
     x
     y
@@ -43,7 +43,7 @@ returns-in-Err-clause-received g c start h =
 
 pub returns-in-Ok-None-clause-received : goal.returns-in-Ok-None-clause-received
 returns-in-Ok-None-clause-received g c start h =
-    let x : InputState = record { left = g.S.Source.left c.args.input.now; faults = g.S.Source.faults c.args.input.now } in
-    let y : InputState = record { left = g.S.Source.left c.next.new.source; faults = g.S.Source.faults c.next.new.source } in
+    let x : InputState = g.S.Source.state c.args.input.now in
+    let y : InputState = g.S.Source.state c.next.new.source in
     HasReceivedAll-end start x y c.args.reader.now c.next.new.self c.args.decoder.now h
     (end_of {y = x} {z = y} c.in-Ok-None.field-0-is c.in-Ok-None.ensures)

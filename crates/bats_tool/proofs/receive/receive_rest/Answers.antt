@@ -6,14 +6,14 @@ use Rattle.bats_tool.proofs.receive.receive_rest.Goals as goal
 pub returns-in_err-receive_next : goal.returns-in_err-receive_next
 returns-in_err-receive_next g c start h =
     Receives-exit start
-    (record { left = g.S.Source.left c.receive_next.new.input; faults = g.S.Source.faults c.receive_next.new.input })
+    (g.S.Source.state c.receive_next.new.input)
     c.receive_next.new.reader c.receive_next.new.decoder c.in_err-receive_next.field-0.0 c.from_residual.result
     (c.in_err-receive_next.ensures.received start (c.records.invariant.received start h)) c.from_residual.ensures.1
 
 pub returns-then-not-branch : goal.returns-then-not-branch
 returns-then-not-branch g c start h =
     subst (λ (b : Bool). ReceivesNext start
-    (record { left = g.S.Source.left c.receive_next.new.input; faults = g.S.Source.faults c.receive_next.new.input })
+    (g.S.Source.state c.receive_next.new.input)
     c.receive_next.new.reader c.receive_next.new.decoder (Ok b)) c.if-not-branch.true
     (c.in_ok-receive_next.ensures.received start (c.records.invariant.received start h))
 
@@ -25,7 +25,7 @@ records-preserved g c =
       reader = going_on.1;
       received = λ start h.
           subst (λ (b : Bool). ReceivesNext start
-          (record { left = g.S.Source.left c.receive_next.new.input; faults = g.S.Source.faults c.receive_next.new.input })
+          (g.S.Source.state c.receive_next.new.input)
           c.receive_next.new.reader c.receive_next.new.decoder (Ok b)) c.if-not-branch.false
           (c.in_ok-receive_next.ensures.received start (c.records.invariant.received start h));
     }

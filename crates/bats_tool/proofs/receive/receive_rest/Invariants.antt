@@ -9,8 +9,8 @@ invariant-records g l = record {
   decoder : l.decoder.session ≡ l.session;
   reader : l.reader.session ≡ Some l.session;
   received : (start : InputState)
-      → ReceivesHeader start (record { left = g.S.Source.left l.fn.input; faults = g.S.Source.faults l.fn.input }) l.fn.reader (Ok l.session)
-      → HasReceived start (record { left = g.S.Source.left l.input; faults = g.S.Source.faults l.input }) l.reader l.decoder;
+      → ReceivesHeader start (g.S.Source.state l.fn.input) l.fn.reader (Ok l.session)
+      → HasReceived start (g.S.Source.state l.input) l.reader l.decoder;
 }
 
 abbrev pub decreases-records : goal.decreases-records

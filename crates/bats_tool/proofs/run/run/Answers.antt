@@ -8,18 +8,18 @@ use Rattle.bats_tool.proofs.run.run.Goals as goal
 pub returns-in-Ok : goal.returns-in-Ok
 returns-in-Ok g c =
     IsRun-done (command_of (map string_bytes c.args.words.now.items)) _ _
-    (record { written = g.N.Sink.written c.args.notes.now; flushed = g.N.Sink.flushed c.args.notes.now; faults = g.N.Sink.faults c.args.notes.now })
-    (record { written = g.N.Sink.written c.report.new.notes; flushed = g.N.Sink.flushed c.report.new.notes; faults = g.N.Sink.faults c.report.new.notes })
+    (g.N.Sink.state c.args.notes.now)
+    (g.N.Sink.state c.report.new.notes)
     c.in-Ok.finish c.report.result c.in-Ok.ensures
     (subst (λ (line : List ℕ). Reports
-    (record { written = g.N.Sink.written c.args.notes.now; flushed = g.N.Sink.flushed c.args.notes.now; faults = g.N.Sink.faults c.args.notes.now })
-    (record { written = g.N.Sink.written c.report.new.notes; flushed = g.N.Sink.flushed c.report.new.notes; faults = g.N.Sink.faults c.report.new.notes })
+    (g.N.Sink.state c.args.notes.now)
+    (g.N.Sink.state c.report.new.notes)
     line c.in-Ok.finish.status c.report.result) c.as_bytes.ensures.value c.report.ensures)
 
 pub returns-in-Err : goal.returns-in-Err
 returns-in-Err g c =
     IsRun-refused (command_of (map string_bytes c.args.words.now.items)) _ _
-    (record { written = g.O.Sink.written c.refuse.new.output; flushed = g.O.Sink.flushed c.refuse.new.output; faults = g.O.Sink.faults c.refuse.new.output })
-    (record { written = g.N.Sink.written c.args.notes.now; flushed = g.N.Sink.flushed c.args.notes.now; faults = g.N.Sink.faults c.args.notes.now })
-    (record { written = g.N.Sink.written c.refuse.new.notes; flushed = g.N.Sink.flushed c.refuse.new.notes; faults = g.N.Sink.faults c.refuse.new.notes })
+    (g.O.Sink.state c.refuse.new.output)
+    (g.N.Sink.state c.args.notes.now)
+    (g.N.Sink.state c.refuse.new.notes)
     c.in-Err.stop c.refuse.result c.in-Err.ensures c.refuse.ensures

@@ -9,14 +9,8 @@ use Rattle.bats_tool.proofs.show.show_next.Goals as goal
 
 pub returns-in_err-show_item-in-Ok-Some-clause-shown : goal.returns-in_err-show_item-in-Ok-Some-clause-shown
 returns-in_err-show_item-in-Ok-Some-clause-shown g c start shown =
-    let before : Ends = (record {
-      input = record { left = g.S.Source.left c.args.input.now; faults = g.S.Source.faults c.args.input.now };
-      output = record { written = g.O.Sink.written c.args.output.now; flushed = g.O.Sink.flushed c.args.output.now; faults = g.O.Sink.faults c.args.output.now };
-    }) in
-    let after : Ends = (record {
-      input = record { left = g.S.Source.left c.next.new.source; faults = g.S.Source.faults c.next.new.source };
-      output = record { written = g.O.Sink.written c.show_item.new.output; flushed = g.O.Sink.flushed c.show_item.new.output; faults = g.O.Sink.faults c.show_item.new.output };
-    }) in
+    let before : Ends = (record { input = g.S.Source.state c.args.input.now; output = g.O.Sink.state c.args.output.now }) in
+    let after : Ends = (record { input = g.S.Source.state c.next.new.source; output = g.O.Sink.state c.show_item.new.output }) in
     let given : GivesItem before.input after.input c.args.reader.now c.next.new.self c.in-Ok-Some.item =
     item_of {y = before.input} {z = after.input} c.in-Ok-Some.field-0-is c.in-Ok-Some.ensures in
     StepsTo-exit start after c.next.new.self c.args.counts.now.headers c.args.counts.now.packets c.in_err-show_item-in-Ok-Some.field-0.0 _ c.from_residual.ensures.1
@@ -25,14 +19,8 @@ returns-in_err-show_item-in-Ok-Some-clause-shown g c start shown =
 
 pub returns-in_ok-show_item-in-Ok-Some-clause-shown : goal.returns-in_ok-show_item-in-Ok-Some-clause-shown
 returns-in_ok-show_item-in-Ok-Some-clause-shown g c start shown =
-    let before : Ends = (record {
-      input = record { left = g.S.Source.left c.args.input.now; faults = g.S.Source.faults c.args.input.now };
-      output = record { written = g.O.Sink.written c.args.output.now; flushed = g.O.Sink.flushed c.args.output.now; faults = g.O.Sink.faults c.args.output.now };
-    }) in
-    let after : Ends = (record {
-      input = record { left = g.S.Source.left c.next.new.source; faults = g.S.Source.faults c.next.new.source };
-      output = record { written = g.O.Sink.written c.show_item.new.output; flushed = g.O.Sink.flushed c.show_item.new.output; faults = g.O.Sink.faults c.show_item.new.output };
-    }) in
+    let before : Ends = (record { input = g.S.Source.state c.args.input.now; output = g.O.Sink.state c.args.output.now }) in
+    let after : Ends = (record { input = g.S.Source.state c.next.new.source; output = g.O.Sink.state c.show_item.new.output }) in
     let given : GivesItem before.input after.input c.args.reader.now c.next.new.self c.in-Ok-Some.item =
     item_of {y = before.input} {z = after.input} c.in-Ok-Some.field-0-is c.in-Ok-Some.ensures in
     record {
@@ -42,14 +30,8 @@ returns-in_ok-show_item-in-Ok-Some-clause-shown g c start shown =
 
 pub returns-in_err-done-in-Ok-None-clause-shown : goal.returns-in_err-done-in-Ok-None-clause-shown
 returns-in_err-done-in-Ok-None-clause-shown g c start shown =
-    let before : Ends = (record {
-      input = record { left = g.S.Source.left c.args.input.now; faults = g.S.Source.faults c.args.input.now };
-      output = record { written = g.O.Sink.written c.args.output.now; flushed = g.O.Sink.flushed c.args.output.now; faults = g.O.Sink.faults c.args.output.now };
-    }) in
-    let after : Ends = (record {
-      input = record { left = g.S.Source.left c.next.new.source; faults = g.S.Source.faults c.next.new.source };
-      output = record { written = g.O.Sink.written c.args.output.now; flushed = g.O.Sink.flushed c.args.output.now; faults = g.O.Sink.faults c.args.output.now };
-    }) in
+    let before : Ends = (record { input = g.S.Source.state c.args.input.now; output = g.O.Sink.state c.args.output.now }) in
+    let after : Ends = (record { input = g.S.Source.state c.next.new.source; output = g.O.Sink.state c.args.output.now }) in
     let given : GivesEnd before.input after.input c.args.reader.now c.next.new.self =
     end_of {y = before.input} {z = after.input} c.in-Ok-None.field-0-is c.in-Ok-None.ensures in
     StepsTo-exit start after c.next.new.self c.args.counts.now.headers c.args.counts.now.packets stops.Memory _ c.from_residual-in_err-done-in-Ok-None.ensures.1
@@ -58,14 +40,8 @@ returns-in_err-done-in-Ok-None-clause-shown g c start shown =
 
 pub returns-in_ok-done-in-Ok-None-clause-shown : goal.returns-in_ok-done-in-Ok-None-clause-shown
 returns-in_ok-done-in-Ok-None-clause-shown g c start shown =
-    let before : Ends = (record {
-      input = record { left = g.S.Source.left c.args.input.now; faults = g.S.Source.faults c.args.input.now };
-      output = record { written = g.O.Sink.written c.args.output.now; flushed = g.O.Sink.flushed c.args.output.now; faults = g.O.Sink.faults c.args.output.now };
-    }) in
-    let after : Ends = (record {
-      input = record { left = g.S.Source.left c.next.new.source; faults = g.S.Source.faults c.next.new.source };
-      output = record { written = g.O.Sink.written c.args.output.now; flushed = g.O.Sink.flushed c.args.output.now; faults = g.O.Sink.faults c.args.output.now };
-    }) in
+    let before : Ends = (record { input = g.S.Source.state c.args.input.now; output = g.O.Sink.state c.args.output.now }) in
+    let after : Ends = (record { input = g.S.Source.state c.next.new.source; output = g.O.Sink.state c.args.output.now }) in
     let given : GivesEnd before.input after.input c.args.reader.now c.next.new.self =
     end_of {y = before.input} {z = after.input} c.in-Ok-None.field-0-is c.in-Ok-None.ensures in
     record {
@@ -75,28 +51,16 @@ returns-in_ok-done-in-Ok-None-clause-shown g c start shown =
 
 pub returns-in_err-refused-in-Err-clause-shown : goal.returns-in_err-refused-in-Err-clause-shown
 returns-in_err-refused-in-Err-clause-shown g c start shown =
-    let before : Ends = (record {
-      input = record { left = g.S.Source.left c.args.input.now; faults = g.S.Source.faults c.args.input.now };
-      output = record { written = g.O.Sink.written c.args.output.now; flushed = g.O.Sink.flushed c.args.output.now; faults = g.O.Sink.faults c.args.output.now };
-    }) in
-    let after : Ends = (record {
-      input = record { left = g.S.Source.left c.next.new.source; faults = g.S.Source.faults c.next.new.source };
-      output = record { written = g.O.Sink.written c.args.output.now; flushed = g.O.Sink.flushed c.args.output.now; faults = g.O.Sink.faults c.args.output.now };
-    }) in
+    let before : Ends = (record { input = g.S.Source.state c.args.input.now; output = g.O.Sink.state c.args.output.now }) in
+    let after : Ends = (record { input = g.S.Source.state c.next.new.source; output = g.O.Sink.state c.args.output.now }) in
     StepsTo-exit start after c.next.new.self c.args.counts.now.headers c.args.counts.now.packets c.in_err-refused-in-Err.field-0.0 _ c.from_residual-in_err-refused-in-Err.ensures.1
     (Attempts-refused start before after c.args.reader.now c.next.new.self c.args.counts.now.headers c.args.counts.now.packets c.in-Err.end c.in_err-refused-in-Err.field-0.0 shown c.in-Err.ensures refl
     c.in_err-refused-in-Err.ensures)
 
 pub returns-in_ok-refused-in-Err-clause-shown : goal.returns-in_ok-refused-in-Err-clause-shown
 returns-in_ok-refused-in-Err-clause-shown g c start shown =
-    let before : Ends = (record {
-      input = record { left = g.S.Source.left c.args.input.now; faults = g.S.Source.faults c.args.input.now };
-      output = record { written = g.O.Sink.written c.args.output.now; flushed = g.O.Sink.flushed c.args.output.now; faults = g.O.Sink.faults c.args.output.now };
-    }) in
-    let after : Ends = (record {
-      input = record { left = g.S.Source.left c.next.new.source; faults = g.S.Source.faults c.next.new.source };
-      output = record { written = g.O.Sink.written c.args.output.now; flushed = g.O.Sink.flushed c.args.output.now; faults = g.O.Sink.faults c.args.output.now };
-    }) in
+    let before : Ends = (record { input = g.S.Source.state c.args.input.now; output = g.O.Sink.state c.args.output.now }) in
+    let after : Ends = (record { input = g.S.Source.state c.next.new.source; output = g.O.Sink.state c.args.output.now }) in
     record {
       as_far = Reaches-refused start before after c.args.reader.now c.next.new.self c.args.counts.now.headers c.args.counts.now.packets c.in-Err.end c.in_ok-refused-in-Err.field-0 shown c.in-Err.ensures refl
           c.in_ok-refused-in-Err.ensures;

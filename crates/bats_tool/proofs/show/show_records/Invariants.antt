@@ -7,14 +7,8 @@ abbrev pub invariant-loop-finish : goal.invariant-loop-finish
 invariant-loop-finish g l = record {
   counted : l.counts.headers + l.counts.packets ≡ l.reader.records;
   shown : HasShown
-      (record {
-        input = record { left = g.S.Source.left l.fn.input; faults = g.S.Source.faults l.fn.input };
-        output = record { written = g.O.Sink.written l.fn.output; flushed = g.O.Sink.flushed l.fn.output; faults = g.O.Sink.faults l.fn.output };
-      })
-      (record {
-        input = record { left = g.S.Source.left l.input; faults = g.S.Source.faults l.input };
-        output = record { written = g.O.Sink.written l.output; flushed = g.O.Sink.flushed l.output; faults = g.O.Sink.faults l.output };
-      })
+      (record { input = g.S.Source.state l.fn.input; output = g.O.Sink.state l.fn.output })
+      (record { input = g.S.Source.state l.input; output = g.O.Sink.state l.output })
       l.reader l.counts.headers l.counts.packets;
 }
 

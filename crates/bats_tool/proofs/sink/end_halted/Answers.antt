@@ -4,7 +4,7 @@ use Rattle.bats_tool.proofs.sink.end_halted.Goals as goal
 
 pub returns-in_err-flush : goal.returns-in_err-flush
 returns-in_err-flush g c =
-    let x : OutputState = record { written = g.O.Sink.written c.args.output.now; flushed = g.O.Sink.flushed c.args.output.now; faults = g.O.Sink.faults c.args.output.now } in
-    let y : OutputState = record { written = g.O.Sink.written c.flush.new.output; flushed = g.O.Sink.flushed c.flush.new.output; faults = g.O.Sink.faults c.flush.new.output } in
+    let x : OutputState = g.O.Sink.state c.args.output.now in
+    let y : OutputState = g.O.Sink.state c.flush.new.output in
     EndsHalted-not_flushed c.args.halt x y c.in_ok-finish.finish c.in_err-flush.field-0.0 _ c.in_ok-finish.ensures c.in_err-flush.ensures
     c.from_residual-in_err-flush.ensures.1

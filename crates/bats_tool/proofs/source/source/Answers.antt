@@ -9,7 +9,7 @@ use Rattle.bats_tool.proofs.source.source.Goals as goal
 pub returns-in_err-session : goal.returns-in_err-session
 returns-in_err-session g c =
     Attempts-stopped c.args.options.now _ _
-    (record { written = g.O.Sink.written c.args.output.now; flushed = g.O.Sink.flushed c.args.output.now; faults = g.O.Sink.faults c.args.output.now })
+    (g.O.Sink.state c.args.output.now)
     c.in_err-session.field-0.0 _ c.in_err-session.ensures c.from_residual.ensures.1
 
 pub returns-in_err-write_output-in-Ok : goal.returns-in_err-write_output-in-Ok
@@ -22,8 +22,8 @@ returns-in_err-write_output-in-Ok g c =
     sym (ap (λ (s : SessionData). source_output s c.in-Ok.encoder.file o.first o.batches) encoded
     ∙ ap (λ (bytes : List ℕ). source_output c.in_ok-session.session bytes o.first o.batches) file) in
     Attempts-cut_short o _ _
-    (record { written = g.O.Sink.written c.args.output.now; flushed = g.O.Sink.flushed c.args.output.now; faults = g.O.Sink.faults c.args.output.now })
-    (record { written = g.O.Sink.written c.write_output.new.output; flushed = g.O.Sink.flushed c.write_output.new.output; faults = g.O.Sink.faults c.write_output.new.output })
+    (g.O.Sink.state c.args.output.now)
+    (g.O.Sink.state c.write_output.new.output)
     c.in_ok-session.session c.in_ok-session.file.items c.in_err-write_output-in-Ok.field-0.0 _
     c.in_ok-session.ensures (Writes-same output c.in_err-write_output-in-Ok.ensures.written)
     c.from_residual-in_err-write_output-in-Ok.ensures.1
@@ -38,8 +38,8 @@ returns g c =
     sym (ap (λ (s : SessionData). source_output s c.in-Ok.encoder.file o.first o.batches) encoded
     ∙ ap (λ (bytes : List ℕ). source_output c.in_ok-session.session bytes o.first o.batches) file) in
     Attempts-done o _ _
-    (record { written = g.O.Sink.written c.args.output.now; flushed = g.O.Sink.flushed c.args.output.now; faults = g.O.Sink.faults c.args.output.now })
-    (record { written = g.O.Sink.written c.write_output.new.output; flushed = g.O.Sink.flushed c.write_output.new.output; faults = g.O.Sink.faults c.write_output.new.output })
+    (g.O.Sink.state c.args.output.now)
+    (g.O.Sink.state c.write_output.new.output)
     c.in_ok-session.session c.in_ok-session.file.items _
     c.in_ok-session.ensures (Writes-same output c.in_ok-write_output-in-Ok.ensures.written)
     c.in_ok-write_output-in-Ok.ensures.flushed refl c.in_ok-line.ensures

@@ -7,7 +7,7 @@ use Rattle.bats_tool.proofs.Loops.{Writes-more, Writes-failed}
 use Rattle.bats_tool.proofs.source.write_batch.Goals as goal
 
 pub loop-j-init : goal.loop-j-init
-loop-j-init g c = Writes-nothing (g.O.Sink.written c.args.output.now) (g.O.Sink.faults c.args.output.now)
+loop-j-init g c = Writes-nothing (g.O.Sink.state c.args.output.now).written (g.O.Sink.state c.args.output.now).faults
 
 pub loop-j-preserved : goal.loop-j-preserved
 loop-j-preserved g c =

@@ -6,5 +6,5 @@ use Rattle.bats_tool.proofs.source.write_batch.Given as goal
 
 abbrev pub invariant-loop-j : goal.invariant-loop-j
 invariant-loop-j g l =
-    Writes (g.O.Sink.written l.fn.output) (g.O.Sink.written l.output) (g.O.Sink.faults l.fn.output) (g.O.Sink.faults l.output)
+    Writes (g.O.Sink.state l.fn.output).written (g.O.Sink.state l.output).written (g.O.Sink.state l.fn.output).faults (g.O.Sink.state l.output).faults
     (flat_map (coded_record l.encoder.session l.encoder.file l.batch.number) (range_with_len 0 l.j)) None

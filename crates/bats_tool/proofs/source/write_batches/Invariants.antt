@@ -6,5 +6,5 @@ use Rattle.bats_tool.proofs.source.write_batches.Given as goal
 
 abbrev pub invariant-loop-i : goal.invariant-loop-i
 invariant-loop-i g l =
-    Writes (g.O.Sink.written l.fn.output) (g.O.Sink.written l.output) (g.O.Sink.faults l.fn.output) (g.O.Sink.faults l.output)
+    Writes (g.O.Sink.state l.fn.output).written (g.O.Sink.state l.output).written (g.O.Sink.state l.fn.output).faults (g.O.Sink.state l.output).faults
     (flat_map (batch_records l.encoder.session l.encoder.file) (range_with_len l.first l.i)) None

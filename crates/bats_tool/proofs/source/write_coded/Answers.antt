@@ -23,7 +23,7 @@ write_packet-requires-clause-payload g c =
 
 pub returns-in_err-packet : goal.returns-in_err-packet
 returns-in_err-packet g c =
-    Writes-exit_memory _ _ refl c.from_residual.ensures.1 (Writes-nothing (g.O.Sink.written c.args.output.now) (g.O.Sink.faults c.args.output.now))
+    Writes-exit_memory _ _ refl c.from_residual.ensures.1 (Writes-nothing (g.O.Sink.state c.args.output.now).written (g.O.Sink.state c.args.output.now).faults)
 
 pub returns : goal.returns
 unfolding coded_record

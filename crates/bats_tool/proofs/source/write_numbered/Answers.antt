@@ -22,7 +22,7 @@ write_batch-requires-clause-batch g c =
 
 pub returns-in_err-batch : goal.returns-in_err-batch
 returns-in_err-batch g c =
-    Writes-exit_memory _ _ refl c.from_residual.ensures.1 (Writes-nothing (g.O.Sink.written c.args.output.now) (g.O.Sink.faults c.args.output.now))
+    Writes-exit_memory _ _ refl c.from_residual.ensures.1 (Writes-nothing (g.O.Sink.state c.args.output.now).written (g.O.Sink.state c.args.output.now).faults)
 
 pub returns : goal.returns
 returns g c =
