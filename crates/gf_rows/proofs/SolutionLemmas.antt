@@ -22,7 +22,9 @@ use Rattle.gf_rows.specs.Plan.{IsPlan, plan_on_column, plan_on_rows}
 use Rattle.gf_rows.specs.Performed.{TakesFrom, Performed}
 use Rattle.gf_rows.specs.Equations.{AreValues, row_value, Solves, row_result}
 use Rattle.gf_rows.proofs.PlanLemmas.{op_on_column-lt, length-plan_on_column, plan_on_column-lt, plan_on_column-append, plan_on_column-row_sum, length-plan_on_rows}
-use Rattle.gf_rows.proofs.LinearLemmas.{IsLinear-product, AreRows, AreRows-plan_on_rows, map-plan_on_rows}
+use Rattle.gf_core.specs.Triangular.{AreRows}
+use Rattle.gf_core.proofs.LinearRows.{IsLinear-product}
+use Rattle.gf_rows.proofs.LinearLemmas.{AreRows-plan_on_rows, map-plan_on_rows}
 
 -- ---- columns that are 0 at the rows that a plan takes from
 
