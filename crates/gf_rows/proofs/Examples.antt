@@ -1,10 +1,11 @@
 -- The definitions at worked values, computed.
-use Rattle.std.proofs.Common.{◌≡◌, [], ◌∷◌, refl}
+use Rattle.std.proofs.Common.{◌≡◌, [], ◌∷◌, get_or, refl}
 use Rattle.gf_core.specs.Field.{gf_mul, gf_sum, product_term, double, doubled}
 use Rattle.gf_rows.specs.declared.operation.Op.TheVariants.{AddScaled, Scale}
 use Rattle.gf_core.specs.Rows.{row_sum, scaled_row, add_scaled_row}
 use Rattle.gf_rows.specs.Plan.{plan_on_column}
 use Rattle.gf_rows.specs.Matrix.{rows_of, with_part}
+use Rattle.gf_rows.specs.Equations.{row_value, row_result}
 
 -- 1 + 2 * 0x80, and 1 + 2 * 3
 row_with_double : add_scaled_row (1 ∷ 1 ∷ []) 2 (0x80 ∷ 3 ∷ []) ≡ 0x1C ∷ 7 ∷ []
@@ -29,3 +30,13 @@ two_rows = refl
 other_middle : with_part (1 ∷ 2 ∷ 3 ∷ 4 ∷ []) 1 (8 ∷ 9 ∷ []) ≡ 1 ∷ 8 ∷ 9 ∷ 4 ∷ []
 unfolding with_part
 other_middle = refl
+
+-- 0x80 * 2 + 3 * 3, for the values 2 and 3
+value_of_row : row_value (record { cols = 2; rows = (1 ∷ 1 ∷ []) ∷ (0x80 ∷ 3 ∷ []) ∷ [] }) (λ j. get_or (2 ∷ 3 ∷ []) j 0) 1 ≡ 0x18
+unfolding double doubled gf_sum product_term gf_mul
+value_of_row = refl
+
+-- what is left of the byte 0x1A
+result_of_row : row_result (record { cols = 2; rows = (1 ∷ 1 ∷ []) ∷ (0x80 ∷ 3 ∷ []) ∷ [] }) (0 ∷ 0x1A ∷ []) (λ j. get_or (2 ∷ 3 ∷ []) j 0) 1 ≡ 2
+unfolding double doubled gf_sum product_term gf_mul
+result_of_row = refl

@@ -1,5 +1,5 @@
 -- Fewer equations than unknowns have a solution that isn't all zeros, where each sum is to be 0.
-use Rattle.std.proofs.Common.{ℕ, zero, suc, ◌≡◌, ◌≢◌, ◌<◌, ◌+◌, ◌∙◌, ◌⊎◌, inl, inr, cond, eqb, List, [], ◌∷◌, ◌++◌, length, sym, ap, refl, subst, arith, length-append, lit<}
+use Rattle.std.proofs.Common.{ℕ, zero, suc, ◌≡◌, ◌≢◌, ◌<◌, ◌+◌, ◌∙◌, ◌⊎◌, inl, inr, cond, eqb, List, [], ◌∷◌, ◌++◌, length, get_or, sym, ap, refl, subst, arith, length-append, lit<}
 use Rattle.std.specs.Prelude.{All, map}
 use Rattle.std.proofs.lemmas.Bool.{cases_eq, eq-eqb, ne_eqb, cond-true, cond-false}
 use Rattle.std.proofs.lemmas.List.{length-map, get_or-map, get_or_append_left, get_or-append-add}
@@ -9,6 +9,8 @@ use Rattle.gf_core.proofs.AddLemmas.{gf_add-lt, zero-gf_add, gf_add_self, gf_add
 use Rattle.gf_core.proofs.SumLemmas.{gf_sum-suc, gf_sum-lt, gf_sum-congruence, gf_sum-zeros, gf_sum-gf_add}
 use Rattle.gf_core.proofs.ProductLemmas.{gf_mul-lt, gf_mul-zero, zero-gf_mul, one-gf_mul, gf_mul_assoc, gf_mul-gf_sum, gf_mul-gf_add_left}
 use Rattle.gf_core.proofs.InverseLemmas.{inverse_exists}
+use Rattle.gf_core.specs.Bytes.{AreBytes}
+use Rattle.gf_core.proofs.RowLemmas.{byte_at}
 use Rattle.gf_rows.specs.Equations.{AreValues}
 
 -- the first entries are bytes
@@ -207,3 +209,14 @@ kernel (suc n) equations bytes fewer =
           (kernel n (map (cleared n pivot.entries inverse.0) (pivot.front ++ pivot.back)) (cleared_bytes n pivot.front pivot.entries pivot.back inverse.0 all).1
           (cleared_count n pivot.front pivot.entries pivot.back inverse.0 (subst (λ list. length list < suc n) pivot.stands fewer))))
     ]
+
+-- the entries of a row, as a function of the place
+abbrev pub entries_of : List ℕ → ℕ → ℕ
+entries_of row j = get_or row j 0
+
+-- fewer rows of bytes than unknowns
+pub kernel-rows : (count : ℕ) (rows : List (List ℕ)) → All AreBytes rows → length rows < count → NonzeroSolution count (map entries_of rows)
+kernel-rows count rows bytes fewer =
+    kernel count (map entries_of rows)
+    (All-map (HasByteEntries count) entries_of rows (All-weaker AreBytes (λ row. HasByteEntries count (entries_of row)) (λ row p j h. byte_at row j p) rows bytes))
+    (rw (length-map rows entries_of) fewer)
