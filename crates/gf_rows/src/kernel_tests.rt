@@ -56,22 +56,29 @@ fn compare_four_with_plain(rt: &impl Abort, first: u8, count: usize)
     requires { count ≤ LONGEST }
 {
     let sources = [row_from(1), row_from(2), row_from(3), row_from(4)];
-    let multiples = [0, 1, 2, 3].map(|i| Multiple {
-        factor: Gf::new(first.wrapping_add(77 * i)),
-        row: &sources[i as usize][..count],
-    });
+    let a = Multiple {
+        factor: Gf::new(first),
+        row: &sources[0][..count],
+    };
+    let b = Multiple {
+        factor: Gf::new(first / 2),
+        row: &sources[1][..count],
+    };
+    let c = Multiple {
+        factor: Gf::new(first / 3),
+        row: &sources[2][..count],
+    };
+    let d = Multiple {
+        factor: Gf::new(255 - first),
+        row: &sources[3][..count],
+    };
     let mut row = row_from(5);
     let mut plain_row = row_from(5);
-    add_four(
-        &mut row[..count],
-        &multiples[0],
-        &multiples[1],
-        &multiples[2],
-        &multiples[3],
-    );
-    for multiple in &multiples {
-        plain::add_scaled(&mut plain_row[..count], multiple.factor, multiple.row);
-    }
+    add_four(&mut row[..count], &a, &b, &c, &d);
+    plain::add_scaled(&mut plain_row[..count], a.factor, a.row);
+    plain::add_scaled(&mut plain_row[..count], b.factor, b.row);
+    plain::add_scaled(&mut plain_row[..count], c.factor, c.row);
+    plain::add_scaled(&mut plain_row[..count], d.factor, d.row);
     assert_eq!(rt; row, plain_row, "from {first} on at {count}");
 }
 
