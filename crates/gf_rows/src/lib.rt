@@ -14,12 +14,14 @@ mod plain;
 mod plan;
 mod steps;
 
-pub use kernels::{add_four, add_scaled, axpy, dot, scale, scale_row};
+pub use kernels::{add_four, add_scaled, axpy, axpy_four, dot, scale, scale_row};
 pub use matrix::Matrix;
 pub use multiple::Multiple;
 pub use operation::Op;
 pub use plan::Plan;
 pub use steps::Steps;
 
+#[cfg(test)]
+mod kernel_tests;
 #[cfg(test)]
 mod tests;

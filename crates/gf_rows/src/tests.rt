@@ -7,58 +7,6 @@ use std::process::Abort;
 use std::sync::ledger::{Blank, Ledger};
 use std::test::Fail;
 
-// Adds twice 0x80 to the first bytes of a row of ones, and then three times 0x80 and nothing.
-fn add_to_front(rt: &impl Abort, count: usize)
-    requires { count ≤ 65 }
-{
-    let src = [0x80; 65];
-    let mut dst = [1; 65];
-    add_scaled(&mut dst[..count], Gf::new(2), &src[..count]);
-    for (i, byte) in dst.iter().enumerate() {
-        assert_eq!(rt;
-            *byte,
-            if i < count { 0x1C } else { 1 },
-            "at {i} of {count}"
-        );
-    }
-    add_scaled(&mut dst[..count], Gf::new(3), &src[..count]);
-    for (i, byte) in dst.iter().enumerate() {
-        assert_eq!(rt;
-            *byte,
-            if i < count { 0x81 } else { 1 },
-            "at {i} of {count}"
-        );
-    }
-    add_scaled(&mut dst[..count], Gf::ZERO, &src[..count]);
-    for (i, byte) in dst.iter().enumerate() {
-        assert_eq!(rt;
-            *byte,
-            if i < count { 0x81 } else { 1 },
-            "at {i} of {count}"
-        );
-    }
-}
-
-#[test]
-fn adds_to_rows_of_each_length(rt: HostRuntime) {
-    add_to_front(&rt, 0);
-    add_to_front(&rt, 1);
-    add_to_front(&rt, 17);
-    add_to_front(&rt, 65);
-}
-
-#[test]
-fn each_product_is_that_of_the_field(rt: HostRuntime) {
-    for factor in 0..=u8::MAX {
-        for byte in 0..=u8::MAX {
-            let want = Gf::new(factor).mul(Gf::new(byte)).byte();
-            let mut dst = [0];
-            add_scaled(&mut dst, Gf::new(factor), &[byte]);
-            assert_eq!(rt; dst[0], want, "{factor} times {byte}");
-        }
-    }
-}
-
 #[test]
 fn scales_a_row(rt: HostRuntime) {
     let mut row = [0x80, 3, 0, 1];
