@@ -1,16 +1,18 @@
 -- The kept packets of a batch are among its packets, and their vectors span those of all packets of the batch.
 use Rattle.std.proofs.Common.{ℕ, ◌≡◌, ◌∙◌, ◌==◌, ◌<◌, sym, ap, refl, subst, Bool, true, false, cond, not, List, [], ◌∷◌, ◌++◌, length, map, inl, inr, arith, append_assoc}
 use Rattle.std.specs.Prelude.{All, filter}
-use Rattle.std.proofs.lemmas.Bool.{cases_Bool, both_ways, eqb-true, not-false, false≢true}
+use Rattle.std.specs.Bool.{Decides}
+use Rattle.std.proofs.lemmas.Bool.{cases_Bool, eqb-true, not-false}
+use Rattle.std.proofs.lemmas.Bool.Decides.{Decides-like}
 use Rattle.std.proofs.lemmas.List.{append-nil, map-append}
-use Rattle.std.proofs.lemmas.List.Elements.{All-nil, All-cons, All-head, All-tail, All-append, All-push, All-map, All-filter, All-weaker, filter-append}
+use Rattle.std.proofs.lemmas.List.Elements.{All-nil, All-cons, All-head, All-tail, All-append, All-push, All-map, All-filter, All-weaker, filter-append, filter_passes}
 use Rattle.gf_core.specs.Bytes.{AreBytes}
 use Rattle.gf_core.specs.Combinations.{IsInSpan}
 use Rattle.gf_core.proofs.LinearRows.{AreRows}
-use Rattle.gf_core.proofs.CombinationLemmas.{IsInSpan-push, IsInSpan-last, IsInSpan-trans}
+use Rattle.gf_core.proofs.CombinationLemmas.{IsInSpan-push, IsInSpan-last, IsInSpan-each, IsInSpan-trans}
 use Rattle.bats_model.specs.Kept.{IsCombination, is_combination, vectors_of, is_new, new_after, kept_of}
 use Rattle.bats_model.specs.declared.packet.Packet.{Packet}
-use Rattle.bats_model.proofs.NewPackets.{is_combination-Decides, if_new, kept_of-push}
+use Rattle.bats_model.proofs.NewPackets.{is_combination-Decides, is_new-Decides, if_new, kept_of-push}
 
 -- the packet is of this batch
 abbrev pub is_of : ℕ → Packet → Bool
@@ -159,3 +161,48 @@ pub kept-spans : (m batch : ℕ) (packets : List Packet) → All (HasVector m) p
 unfolding new_after
 kept-spans m batch packets all =
     spanned-append m batch [] packets (All-nil (HasVector m)) all (All-nil (IsInSpan m []))
+
+-- ---- new by the kept packets alone
+
+of-vectors : (R : List ℕ → Type 0) (batch : ℕ) (packets : List Packet) → All R (vectors_of batch packets)
+    → All (λ p. is_of batch p ≡ true → R p.coefs) packets
+of-vectors R batch [] all = All-nil (λ p. is_of batch p ≡ true → R p.coefs)
+of-vectors R batch (p ∷ ps) all =
+    let rest : List (List ℕ) = vectors_of batch ps in
+    let split : Bool → Type 0 = λ b. All R (coefs_of (cond b (p ∷ filter (is_of batch) ps) (filter (is_of batch) ps))) in
+    All-cons (λ q. is_of batch q ≡ true → R q.coefs) p ps (λ e. All-head R p.coefs rest (subst split e all))
+    (of-vectors R batch ps (elim (cases_Bool (is_of batch p)) [
+      | inl e ↦ All-tail R p.coefs rest (subst split e all)
+      | inr e ↦ subst split e all
+    ]))
+
+-- the kept vectors are among those of the batch
+pub kept-among : (m batch : ℕ) (packets : List Packet) → All (HasVector m) packets
+    → All (IsInSpan m (vectors_of batch packets)) (coefs_of (kept_of batch packets))
+kept-among m batch packets all =
+    let vectors : List (List ℕ) = vectors_of batch packets in
+    let are : AreRows m vectors = AreRows-coefs m (filter (is_of batch) packets) (All-filter (is_of batch) (HasVector m) packets all) in
+    let each : All (λ p. is_of batch p ≡ true → IsInSpan m vectors p.coefs) (kept_of batch packets) =
+    All-kept_of (λ p. is_of batch p ≡ true → IsInSpan m vectors p.coefs) batch packets
+    (of-vectors (IsInSpan m vectors) batch packets (IsInSpan-each m vectors are.widths)) in
+    All-map (IsInSpan m vectors) (λ p. p.coefs) (kept_of batch packets)
+    (λ k d within. each k d within (filter_passes (is_of batch) (new_after [] packets) k d within))
+
+-- a packet is new exactly where its vector is no combination of the kept ones of its batch
+pub is_new-kept : (m : ℕ) (packets : List Packet) (packet : Packet) → All (HasVector m) packets → HasVector m packet
+    → Decides (is_new packets packet) (¬ IsCombination (coefs_of (kept_of packet.batch packets)) packet.coefs)
+is_new-kept m packets packet all own =
+    let vectors : List (List ℕ) = vectors_of packet.batch packets in
+    let kept : List (List ℕ) = coefs_of (kept_of packet.batch packets) in
+    let are : AreRows m vectors =
+    AreRows-coefs m (filter (is_of packet.batch) packets) (All-filter (is_of packet.batch) (HasVector m) packets all) in
+    let kept_are : AreRows m kept = AreRows-coefs m (kept_of packet.batch packets) (All-kept_of (HasVector m) packet.batch packets all) in
+    let to_all : IsCombination kept packet.coefs → IsCombination vectors packet.coefs = λ is.
+    subst (λ (n : ℕ). IsInSpan n vectors packet.coefs) (sym own.size)
+    (IsInSpan-trans m vectors kept packet.coefs are (kept-among m packet.batch packets all)
+    (subst (λ (n : ℕ). IsInSpan n kept packet.coefs) own.size is)) in
+    let to_kept : IsCombination vectors packet.coefs → IsCombination kept packet.coefs = λ is.
+    subst (λ (n : ℕ). IsInSpan n kept packet.coefs) (sym own.size)
+    (IsInSpan-trans m kept vectors packet.coefs kept_are (kept-spans m packet.batch packets all)
+    (subst (λ (n : ℕ). IsInSpan n vectors packet.coefs) own.size is)) in
+    Decides-like (is_new packets packet) (λ none is. none (to_all is)) (λ none is. none (to_kept is)) (is_new-Decides packets packet)
