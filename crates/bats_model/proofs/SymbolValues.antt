@@ -1,12 +1,18 @@
 -- Coded packets and their combinations over any values of the symbols: the values of other numbers don't count, and of
 -- bytes they are bytes.
-use Rattle.std.proofs.Common.{ℕ, ◌≡◌, ◌<◌, ap, List, get_or}
+use Rattle.std.proofs.Common.{ℕ, ◌≡◌, ◌<◌, ◌+◌, ◌*◌, ap, List, get_or}
+use Rattle.std.specs.List.{range_with_len}
+use Rattle.std.proofs.lemmas.List.Elements.{All-map}
 use Rattle.gf_core.specs.Field.{gf_mul}
+use Rattle.gf_core.proofs.RowLemmas.{byte_at}
 use Rattle.gf_core.proofs.SumLemmas.{gf_sum-congruence, gf_sum-lt}
 use Rattle.gf_core.proofs.ProductLemmas.{gf_mul-lt}
+use Rattle.bats_model.specs.Bytes.{AreBytes}
 use Rattle.bats_model.specs.Session.{SessionData, symbols_of}
+use Rattle.bats_model.specs.Symbol.{symbol_byte}
 use Rattle.bats_model.specs.Batch.{BatchData, batch_of, degree_of, contributor_of, entry_of}
 use Rattle.bats_model.specs.Values.{coded_value, combined_value, packet_value}
+use Rattle.bats_model.specs.Coded.{coded_byte, coded_payload}
 use Rattle.bats_model.specs.declared.packet.Packet.{Packet}
 use Rattle.bats_model.proofs.EachBatch.{contributor_of-lt}
 
@@ -57,3 +63,18 @@ combined_value-lt session number coefs x bytes =
     let batch : BatchData = batch_of session number in
     gf_sum-lt session.m (λ j. gf_mul (get_or coefs j 0) (coded_value batch j x))
     (λ j within. gf_mul-lt (get_or coefs j 0) (coded_value batch j x) (coded_value-lt session number j x bytes))
+
+-- ---- of a file
+
+-- the coded bytes of a file of bytes are bytes
+pub coded_byte-lt : (session : SessionData) (file : List ℕ) (number j c : ℕ) → AreBytes file
+    → coded_byte session file (batch_of session number) j c < 256
+coded_byte-lt session file number j c bytes =
+    coded_value-lt session number j (λ s. symbol_byte session file s c) (λ s within. byte_at file (s * session.t + c) bytes)
+
+pub coded_payload-lt : (session : SessionData) (file : List ℕ) (number j : ℕ) → AreBytes file
+    → AreBytes (coded_payload session file (batch_of session number) j)
+unfolding coded_payload
+coded_payload-lt session file number j bytes =
+    All-map (λ byte. byte < 256) (coded_byte session file (batch_of session number) j) (range_with_len 0 session.t)
+    (λ i d within. coded_byte-lt session file number j (get_or (range_with_len 0 session.t) i d) bytes)

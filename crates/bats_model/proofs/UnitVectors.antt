@@ -1,8 +1,11 @@
 -- Vectors that are 1 at one place and 0 elsewhere.
 use Rattle.std.proofs.Common.{ℕ, ◌≡◌, ◌≢◌, ◌<◌, ◌==◌, ◌+◌, ◌-◌, ◌∙◌, sym, ap, refl, cond, List, length, get_or, take, drop, subst, inl, inr, arith}
-use Rattle.std.proofs.lemmas.Bool.{cases_order, cond-true, cond-false, eq-eqb, ne_eqb}
+use Rattle.std.specs.List.{range_with_len}
+use Rattle.std.proofs.lemmas.Bool.{cases_order, cond-true, cond-false, cond_both, eq-eqb, ne_eqb}
 use Rattle.std.proofs.lemmas.List.{get_or-drop, length-drop, take_rest}
+use Rattle.std.proofs.lemmas.List.Elements.{All-map}
 use Rattle.std.proofs.lemmas.List.FromFn.{get_or-map-range_with_len, length-map-range_with_len, fill_by_all}
+use Rattle.bats_model.specs.Bytes.{AreBytes}
 use Rattle.bats_model.specs.Coded.{unit_vector}
 use Rattle.bats_model.specs.Plain.{IsUnitAt}
 
@@ -12,6 +15,12 @@ unit_entry j i = cond (i == j) 1 0
 pub length-unit_vector : (m j : ℕ) → length (unit_vector m j) ≡ m
 unfolding unit_vector
 length-unit_vector m j = length-map-range_with_len (λ i. cond (i == j) 1 0) 0 m
+
+pub unit_vector-lt : (m j : ℕ) → AreBytes (unit_vector m j)
+unfolding unit_vector
+unit_vector-lt m j =
+    All-map (λ byte. byte < 256) (unit_entry j) (range_with_len 0 m)
+    (λ i d within. cond_both (get_or (range_with_len 0 m) i d == j) 1 0 (λ byte. byte < 256) (λ _. omega arith) (λ _. omega arith))
 
 entry-same : (i j : ℕ) → i ≡ j → unit_entry j i ≡ 1
 entry-same i j e = cond-true (i == j) 1 0 (eq-eqb i j e)

@@ -1,4 +1,4 @@
--- The contributors that a key draws: how many there are, that they are distinct, and that each is a symbol's number.
+-- The contributors that a key draws: how many there are, and that they are distinct.
 use Rattle.std.proofs.Common.{Bool, true, false, cond, not, map, min, ◌*◌, ℕ, zero, suc, ◌≡◌, ◌≢◌, ◌<◌, ◌≤◌, ◌+◌, ◌-◌, List, [], ◌∷◌, ◌++◌, length, get_or, ltb, eqb, refl, sym, ◌∙◌, subst, arith, add-one, length-append, ⊎_elim}
 use Rattle.std.specs.List.{range_with_len, list_any, AllPairs, All}
 use Rattle.std.proofs.lemmas.Bool.{cases_lt, eq-eqb, not-true, both_ways}
@@ -11,6 +11,7 @@ use Rattle.bats_model.specs.Key.{key_word, pick, batch_key}
 use Rattle.bats_model.specs.Session.{SessionData, symbols_of}
 use Rattle.bats_model.specs.DegreeTable.{degree_table, degree_at}
 use Rattle.bats_model.specs.Batch.{BatchData, unchosen, drawn, is_systematic_batch, systematic_batch_of, sampled_batch_of, batch_of}
+use Rattle.bats_model.proofs.EachBatch.{contributors-batch_of}
 use Rattle.bats_sampler.specs.Contributors.{AreContributors}
 use Rattle.bats_sampler.proofs.Unchosen.{length-unchosen, last_at}
 use Rattle.bats_sampler.proofs.KeyLemmas.{key_word-small, pick-below}
@@ -33,15 +34,7 @@ length-drawn key symbols (suc i) =
       length-drawn key symbols i,
     )
 
--- an unchosen number is below n
-below-unchosen : (n : ℕ) (chosen : List ℕ) → All (λ s. s < n) (unchosen n chosen)
-unfolding unchosen
-below-unchosen n chosen =
-    All-filter (λ s. not (list_any (λ x. eqb x s) chosen)) (λ s. s < n) (range_with_len 0 n)
-    (λ k d lt. let at = get_or-range_with_len 0 n k d (subst (λ m. k < m) (length-range_with_len 0 n) lt) in
-    let long = length-range_with_len 0 n in omega arith)
-
--- and not chosen
+-- an unchosen number is not chosen
 apart-unchosen : (n : ℕ) (chosen : List ℕ) → All (λ s. list_any (λ x. eqb x s) chosen ≡ false) (unchosen n chosen)
 unfolding unchosen
 apart-unchosen n chosen k d lt =
@@ -61,55 +54,49 @@ distinct-push xs y pairs new i j d lt l same =
     (cases_lt j (length xs))
 
 -- one contributor more
-AreContributors-more : (symbols place : ℕ) (chosen : List ℕ) → AreContributors symbols chosen
-    → place + length chosen < symbols
-    → AreContributors symbols (chosen ++ get_or (unchosen symbols chosen) place 0 ∷ [])
-AreContributors-more symbols place chosen are lt =
+distinct-more : (symbols place : ℕ) (chosen : List ℕ) → AllPairs (λ a b. a ≢ b) chosen → place + length chosen < symbols
+    → AllPairs (λ a b. a ≢ b) (chosen ++ get_or (unchosen symbols chosen) place 0 ∷ [])
+distinct-more symbols place chosen distinct lt =
     let within : place < length (unchosen symbols chosen) =
-    omega (arith, length-unchosen chosen are.distinct symbols, count_by-le-length (λ c. ltb c symbols) chosen) in
-    record {
-      distinct = distinct-push chosen (get_or (unchosen symbols chosen) place 0) are.distinct
-          (apart-unchosen symbols chosen place 0 within);
-      below = All-push (λ s. s < symbols) chosen (get_or (unchosen symbols chosen) place 0) are.below
-          (below-unchosen symbols chosen place 0 within);
-    }
+    omega (arith, length-unchosen chosen distinct symbols, count_by-le-length (λ c. ltb c symbols) chosen) in
+    distinct-push chosen (get_or (unchosen symbols chosen) place 0) distinct (apart-unchosen symbols chosen place 0 within)
 
--- the drawn contributors are distinct, and each is the number of a symbol
-pub AreContributors-drawn : (key : List ℕ) (symbols i : ℕ) → i ≤ symbols → AreContributors symbols (drawn key symbols i)
+-- the drawn contributors are distinct
+pub distinct-drawn : (key : List ℕ) (symbols i : ℕ) → i ≤ symbols → AllPairs (λ a b. a ≢ b) (drawn key symbols i)
 unfolding drawn
-AreContributors-drawn key symbols zero le =
-    record { distinct = λ i j d lt l. absurd (omega arith); below = λ k d lt. absurd (omega arith) }
-AreContributors-drawn key symbols (suc i) le =
+distinct-drawn key symbols zero le = λ i j d lt l. absurd (omega arith)
+distinct-drawn key symbols (suc i) le =
     let place = pick (key_word key (1 + i)) (symbols - i) in
     let low : place < symbols - i =
     pick-below (key_word key (1 + i)) (symbols - i) (key_word-small key (1 + i)) (omega arith) in
     let long = length-drawn key symbols i in
-    AreContributors-more symbols place (drawn key symbols i) (AreContributors-drawn key symbols i (omega arith))
-    (omega arith)
+    distinct-more symbols place (drawn key symbols i) (distinct-drawn key symbols i (omega arith)) (omega arith)
 
-AreContributors-systematic : (symbols first m : ℕ)
-    → AreContributors symbols (map (λ i. first + i) (range_with_len 0 (min symbols (first + m) - first)))
-AreContributors-systematic symbols first m =
+distinct-systematic : (symbols first m : ℕ)
+    → AllPairs (λ a b. a ≢ b) (map (λ i. first + i) (range_with_len 0 (min symbols (first + m) - first)))
+distinct-systematic symbols first m i j d lt l same =
     let degree : ℕ = min symbols (first + m) - first in
     let numbers : List ℕ = map (λ i. first + i) (range_with_len 0 degree) in
     let long : length numbers ≡ degree = length-map-range_with_len (λ i. first + i) 0 degree in
-    let at : (k d : ℕ) → k < length numbers → get_or numbers k d ≡ first + k =
-    λ k d lt. get_or-map-range_with_len (λ i. first + i) 0 degree k k d (omega arith) (omega arith) in
-    record {
-      distinct = λ i j d lt l same. let a = at i d (omega arith) in let b = at j d l in absurd (omega arith);
-      below = λ k d lt. let a = at k d lt in omega arith;
-    }
+    let at : (k : ℕ) → k < length numbers → get_or numbers k d ≡ first + k =
+    λ k within. get_or-map-range_with_len (λ i. first + i) 0 degree k k d (omega arith) (omega arith) in
+    let a = at i (omega arith) in
+    let b = at j l in
+    absurd (omega arith)
 
-either : (symbols : ℕ) (b : Bool) (x y : BatchData) → AreContributors symbols x.contributors
-    → AreContributors symbols y.contributors → AreContributors symbols (cond b x y).contributors
-either symbols true x y p q = p
-either symbols false x y p q = q
+distinct_of_either : (b : Bool) (x y : BatchData) → AllPairs (λ a b. a ≢ b) x.contributors
+    → AllPairs (λ a b. a ≢ b) y.contributors → AllPairs (λ a b. a ≢ b) (cond b x y).contributors
+distinct_of_either true x y p q = p
+distinct_of_either false x y p q = q
+
+distinct-batch_of : (s : SessionData) (n : ℕ) → AllPairs (λ a b. a ≢ b) (batch_of s n).contributors
+unfolding batch_of systematic_batch_of sampled_batch_of
+distinct-batch_of s n =
+    distinct_of_either (is_systematic_batch s n) (systematic_batch_of s n) (sampled_batch_of s n)
+    (distinct-systematic (symbols_of s) (n * s.m) s.m)
+    (distinct-drawn (batch_key s.seed n) (symbols_of s)
+    (min (degree_at (degree_table s.table) (pick (key_word (batch_key s.seed n) 0) 1000)) (symbols_of s)) (omega arith))
 
 -- the contributors of each batch of a session are distinct, and each is the number of a symbol
 pub AreContributors-batch_of : (s : SessionData) (n : ℕ) → AreContributors (symbols_of s) (batch_of s n).contributors
-unfolding batch_of systematic_batch_of sampled_batch_of
-AreContributors-batch_of s n =
-    either (symbols_of s) (is_systematic_batch s n) (systematic_batch_of s n) (sampled_batch_of s n)
-    (AreContributors-systematic (symbols_of s) (n * s.m) s.m)
-    (AreContributors-drawn (batch_key s.seed n) (symbols_of s)
-    (min (degree_at (degree_table s.table) (pick (key_word (batch_key s.seed n) 0) 1000)) (symbols_of s)) (omega arith))
+AreContributors-batch_of s n = record { distinct = distinct-batch_of s n; below = contributors-batch_of s n }

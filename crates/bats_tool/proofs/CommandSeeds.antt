@@ -1,9 +1,11 @@
 -- The seed of a command `source` has 16 bytes.
-use Rattle.std.proofs.Common.{ℕ, ◌≡◌, ◌*◌, Bool, List, length, sym, subst, ◌∙◌, Option, None, Some, Result, Ok, Err, arith}
+use Rattle.std.proofs.Common.{ℕ, ◌≡◌, ◌<◌, ◌*◌, Bool, List, length, sym, subst, ◌∙◌, Option, None, Some, Result, Ok, Err, arith}
 use Rattle.std.specs.Prelude.{codes}
 use Rattle.std.specs.Option.{option_and_then}
 use Rattle.std.specs.Result.{result_ok}
 use Rattle.std.proofs.lemmas.Option.{option_and_then_some}
+use Rattle.std.proofs.lemmas.List.Elements.{All-from_get_or}
+use Rattle.bats_model.specs.Bytes.{AreBytes}
 use Rattle.hex.specs.Hex.{decode_sized}
 use Rattle.hex.specs.declared.error.FromHexError.{FromHexError}
 use Rattle.hex.proofs.HexLemmas.{decode_sized-ok, decode_sized-twice, decode_of-ok}
@@ -17,21 +19,25 @@ ok_of : (r : Result (List ℕ) FromHexError) (x : List ℕ) → result_ok r ≡ 
 ok_of (Ok y) x h = cc
 ok_of (Err e) x h = cc
 
-seed_of-length : (word seed : List ℕ) → seed_of word ≡ Some seed → length seed ≡ 16
+-- 16 bytes
+abbrev pub IsSeed : List ℕ → Type 0
+IsSeed seed = (length seed ≡ 16) × AreBytes seed
+
+IsSeed-seed_of : (word seed : List ℕ) → seed_of word ≡ Some seed → IsSeed seed
 unfolding seed_of
-seed_of-length word seed h =
+IsSeed-seed_of word seed h =
     let ok : decode_sized word 16 ≡ Ok seed = ok_of (decode_sized word 16) seed h in
     let size : length word ≡ 2 * 16 = decode_sized-ok word 16 seed ok in
     let whole = decode_of-ok word seed (sym (decode_sized-twice word 16 size) ∙ ok) in
-    omega (arith, size, whole.2)
+    (omega (arith, size, whole.2), All-from_get_or (λ byte. byte < 256) seed 0 (λ i within. whole.3 i))
 
-option_seed : (word : Option (List ℕ)) (seed : List ℕ) → option_and_then seed_of word ≡ Some seed → length seed ≡ 16
+option_seed : (word : Option (List ℕ)) (seed : List ℕ) → option_and_then seed_of word ≡ Some seed → IsSeed seed
 option_seed None seed h = cc
-option_seed (Some word) seed h = seed_of-length word seed h
+option_seed (Some word) seed h = IsSeed-seed_of word seed h
 
 -- a seed that a command has is one of 16 bytes
 abbrev HasSeed : Command → Type 0
-HasSeed (Source m t table systematic seed first batches) = length seed ≡ 16
+HasSeed (Source m t table systematic seed first batches) = IsSeed seed
 HasSeed (Sink workers both) = Unit {0}
 HasSeed Show = Unit {0}
 
@@ -64,6 +70,6 @@ show_of-seed value flag command h =
 
 -- words that are a command `source` give its seed 16 bytes
 pub source_seed : (words : List (List ℕ)) (m t table : ℕ) (systematic : Bool) (seed : List ℕ) (first batches : ℕ)
-    → command_of words ≡ Some (Source m t table systematic seed first batches) → length seed ≡ 16
+    → command_of words ≡ Some (Source m t table systematic seed first batches) → IsSeed seed
 source_seed words m t table systematic seed first batches h =
     command_of-keeps HasSeed source_of-seed sink_of-seed show_of-seed words (Source m t table systematic seed first batches) h

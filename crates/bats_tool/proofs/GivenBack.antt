@@ -114,7 +114,7 @@ pub sent_of : (o : SourceOptions) (file : List ℕ) (sent : List Item) → HasRa
     → IsPacketFile (session_for o (length file)) sent (source_ending o file).output → packets_of sent ≡ packets_for o file
 sent_of o file sent ranges bytes k =
     let session = session_for o (length file) in
-    let h : Sends o file = record { ranges = ranges; seed = k.is_session.seed; bytes = bytes; symbols = k.is_session.symbols } in
+    let h : Sends o file = record { ranges = ranges; seed = k.is_session.seed; seed_bytes = k.is_session.seed_bytes; bytes = bytes; symbols = k.is_session.symbols } in
     let f = file_for o file h in
     ap packets_of (same_file session session sent f.list (source_ending o file).output k f.file).1 ∙ f.of_packets
 

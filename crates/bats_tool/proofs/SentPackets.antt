@@ -17,7 +17,8 @@ use Rattle.bats_model.specs.declared.packet.Packet.{Packet}
 use Rattle.bats_model.specs.declared.item.Item.{Item}
 use Rattle.bats_model.specs.declared.item.Item.TheVariants as items
 use Rattle.bats_model.proofs.SystematicBatches.{number-batch_of}
-use Rattle.bats_model.proofs.UnitVectors.{length-unit_vector}
+use Rattle.bats_model.proofs.UnitVectors.{length-unit_vector, unit_vector-lt}
+use Rattle.bats_model.proofs.SymbolValues.{coded_payload-lt}
 use Rattle.bats_encoder.proofs.Agreements.{Agrees-coded, length-coded_payload}
 use Rattle.bats_tool.specs.declared.source.SourceOptions.{SourceOptions}
 use Rattle.bats_tool.specs.declared.status.Status.TheVariants as statuses
@@ -155,11 +156,14 @@ All-sent P session file first batches h =
     All-batches P (batch_packets session file) first batches
     (λ number low high. All-columns P (sent_packet session file number) 0 session.m (λ j _ l. h number j low high (omega arith)))
 
-HasShape-sent : (session : SessionData) (file : List ℕ) (number j : ℕ) → number < 2 ^ 32 → HasShape session (sent_packet session file number j)
-HasShape-sent session file number j h = record {
+HasShape-sent : (session : SessionData) (file : List ℕ) (number j : ℕ) → number < 2 ^ 32 → AreBytes file
+    → HasShape session (sent_packet session file number j)
+HasShape-sent session file number j h bytes = record {
   batch = h;
   coefs = length-unit_vector session.m j;
   payload = length-coded_payload session file (batch_of session number) j;
+  coef_bytes = unit_vector-lt session.m j;
+  payload_bytes = coded_payload-lt session file number j bytes;
 }
 
 Agrees-sent : (session : SessionData) (file : List ℕ) (number j : ℕ) → IsFile session file → j < session.m
@@ -182,6 +186,7 @@ AgreesWithAll-sent session file first batches f = record {
 pub record Sends (options : SourceOptions) (file : List ℕ) : Type 0 where
   pub ranges : HasRanges options
   pub seed : length options.seed ≡ 16
+  pub seed_bytes : AreBytes options.seed
   pub bytes : AreBytes file
   pub symbols : symbols_of (session_for options (length file)) ≤ 4096
 
@@ -194,6 +199,7 @@ IsSession-for o file h = record {
   table = h.ranges.table_high;
   symbols = h.symbols;
   seed = h.seed;
+  seed_bytes = h.seed_bytes;
 }
 
 pub IsFile-for : (o : SourceOptions) (file : List ℕ) → AreBytes file → IsFile (session_for o (length file)) file
@@ -203,10 +209,10 @@ IsFile-for o file h = record { size = refl; bytes = h }
 abbrev pub packets_for : SourceOptions → List ℕ → List Packet
 packets_for o file = sent_packets (session_for o (length file)) file o.first o.batches
 
-shapes_for : (o : SourceOptions) (file : List ℕ) → HasRanges o → All (HasShape (session_for o (length file))) (packets_for o file)
-shapes_for o file h =
+shapes_for : (o : SourceOptions) (file : List ℕ) → HasRanges o → AreBytes file → All (HasShape (session_for o (length file))) (packets_for o file)
+shapes_for o file h bytes =
     All-sent (HasShape (session_for o (length file))) (session_for o (length file)) file o.first o.batches
-    (λ number j low high column. HasShape-sent (session_for o (length file)) file number j (omega (arith, h.first_high, h.batches_high)))
+    (λ number j low high column. HasShape-sent (session_for o (length file)) file number j (omega (arith, h.first_high, h.batches_high)) bytes)
 
 few_for : (o : SourceOptions) (file : List ℕ) → HasRanges o → length (packets_for o file) < most_records
 few_for o file h =
@@ -229,18 +235,18 @@ pub file_for : (o : SourceOptions) (file : List ℕ) → Sends o file
     → IsFileOf (session_for o (length file)) (packets_for o file) (source_ending o file).output
 file_for o file h =
     subst (IsFileOf (session_for o (length file)) (packets_for o file)) (sym (output_for o file h))
-    (file_of (session_for o (length file)) (packets_for o file) (IsSession-for o file h) (shapes_for o file h.ranges) (few_for o file h.ranges))
+    (file_of (session_for o (length file)) (packets_for o file) (IsSession-for o file h) (shapes_for o file h.ranges h.bytes) (few_for o file h.ranges))
 
-pub sends_a_packet_file : (o : SourceOptions) (file : List ℕ) → HasRanges o → length o.seed ≡ 16 → AreBytes file
+pub sends_a_packet_file : (o : SourceOptions) (file : List ℕ) → HasRanges o → length o.seed ≡ 16 → AreBytes o.seed → AreBytes file
     → symbols_of (session_for o (length file)) ≤ 4096
     → ((source_ending o file).status ≡ statuses.Done)
     × ((list : List Item)
     × (IsPacketFile (session_for o (length file)) list (source_ending o file).output
     × (length (packets_of list) ≡ o.batches * o.m)
     × AgreesWithAll (session_for o (length file)) (packets_of list) file))
-sends_a_packet_file o file ranges seed bytes symbols =
+sends_a_packet_file o file ranges seed seed_bytes bytes symbols =
     let session = session_for o (length file) in
-    let sent = file_for o file (record { ranges = ranges; seed = seed; bytes = bytes; symbols = symbols }) in
+    let sent = file_for o file (record { ranges = ranges; seed = seed; seed_bytes = seed_bytes; bytes = bytes; symbols = symbols }) in
     let agrees = AgreesWithAll-sent session file o.first o.batches (IsFile-for o file bytes) in (
       status_for o file symbols,
       (

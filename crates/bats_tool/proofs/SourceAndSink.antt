@@ -47,7 +47,8 @@ has_sent words m t table systematic seed first batches file sent asked bytes is 
     record {
       sends = record {
         ranges = command_of-ranges words (commands.Source m t table systematic seed first batches) asked;
-        seed = source_seed words m t table systematic seed first batches asked;
+        seed = (source_seed words m t table systematic seed first batches asked).0;
+        seed_bytes = (source_seed words m t table systematic seed first batches asked).1;
         bytes = bytes;
         symbols = not_too_long o file (sym (ap (λ (x : Ending). x.status) sent_is) ∙ done);
       };

@@ -30,8 +30,8 @@ pub fn one_ending()
 /// What `source` writes of a file that is not too long is a packet file of the file's session, with batches times m
 /// packets, and the file agrees with all of them.
 pub fn source_sends_a_packet_file()
-    ensures { (options : SourceOptions) (file : List ℕ) → HasRanges options → length options.seed ≡ 16 → AreBytes file
-        → symbols_of (session_for options (length file)) ≤ 4096
+    ensures { (options : SourceOptions) (file : List ℕ) → HasRanges options → length options.seed ≡ 16
+        → AreBytes options.seed → AreBytes file → symbols_of (session_for options (length file)) ≤ 4096
         → ((source_ending options file).status ≡ statuses.Done)
         × ((list : List Item)
         × (IsPacketFile (session_for options (length file)) list (source_ending options file).output
