@@ -1,3 +1,5 @@
 pub mod Reducing
 pub mod KeptRows
 pub mod Judging
+pub mod Growing
+pub mod Offering

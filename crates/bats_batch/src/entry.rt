@@ -20,7 +20,9 @@ pub(crate) struct Entry {
 
 // Makes the buffer the packet as one row of this many bytes.
 pub(crate) fn write_row(row: &mut Vec<u8>, packet: &Packet, size: usize) -> Result<(), AllocError>
-    ensures { OnOk result (row.new.items ≡ packet_row packet.now) }
+    ensures row { OnOk result (row.new.items ≡ packet_row packet.now) }
+    ensures coef_bytes { OnOk result (AreBytes packet.now.coefs) }
+    ensures payload_bytes { OnOk result (AreBytes packet.now.payload) }
 {
     row.clear();
     row.try_reserve_exact(size)?;

@@ -1,0 +1,188 @@
+//! The basis of one batch.
+ghost use Rattle.std.specs.Prelude.{◌≡◌, ◌≢◌, ◌<◌, ◌+◌, ◌≤◌, [], List, All, length, IfOk, OnOk, OnErr, MatchOption, slice_get, Some};
+
+use crate::entry::{Entry, keep, write_row};
+use crate::reduction::{first_nonzero, reduce_by};
+use bats_model::{Packet, Taken};
+use gf_rows::Steps;
+use std::alloc::{AllocError, Global};
+use std::marker::Model;
+use std::mem;
+use std::sync::ledger::Ledger;
+
+/// The kept packets of one batch: those whose coefficient vectors are no combinations of the ones kept before. Each
+/// stands as it was offered, beside its reduced form.
+#[derive(Drop)]
+pub struct Basis {
+    alloc: Global,
+    m: u8,
+    t: u16,
+    entries: Vec<Entry>,
+    // The offered packet as one row, while it is reduced.
+    row: Vec<u8>,
+}
+
+impl Model for Basis {
+    ghost use Rattle.bats_batch.specs.Basis.{BasisData};
+
+    ghost Value = { BasisData };
+
+    ghost use Rattle.bats_batch.specs.steps.IsBasis.{IsBasis};
+    ghost use Rattle.bats_batch.specs.steps.Entries.{offered_packets, pivots_of, rows_of};
+
+    ghost view = { λ b. record { m = b.m; t = b.t; kept = offered_packets b.entries.items } };
+
+    ghost invariant = { λ b. IsBasis b.m b.t (offered_packets b.entries.items)
+        (pivots_of b.entries.items) (rows_of b.entries.items) };
+}
+
+ghost use Rattle.gf_core.specs.Bytes.{AreBytes};
+ghost use Rattle.gf_core.specs.Triangular.{AreRows, AreTriangular};
+ghost use Rattle.bats_model.specs.Kept.{packet_row};
+ghost use Rattle.bats_batch.specs.steps.Reduction.{Reduces, IsLeading};
+ghost use Rattle.bats_batch.specs.steps.Entries.{pivots_of, rows_of};
+ghost use Rattle.bats_batch.specs.Basis.{IsTaken, kept_with};
+
+// Makes `row` the packet's row, of this many bytes, reduced by the entries. It gives the place of the first byte that
+// is left.
+fn reduce_packet<C: Ledger, L: Ledger>(
+    entries: &[Entry],
+    row: &mut Vec<u8>,
+    packet: &Packet,
+    size: usize,
+    coef_steps: &mut Steps<C>,
+    steps: &mut Steps<L>,
+) -> Result<Option<usize>, AllocError>
+    requires size { length (packet_row packet.now) ≡ size }
+    requires rows { AreRows size (rows_of entries.now) }
+    requires triangular { AreTriangular (pivots_of entries.now) (rows_of entries.now) }
+    ensures coef_bytes { OnOk result (AreBytes packet.now.coefs) }
+    ensures payload_bytes { OnOk result (AreBytes packet.now.payload) }
+    ensures reduced { OnOk result (Reduces size (rows_of entries.now) (pivots_of entries.now)
+        (packet_row packet.now) row.new.items) }
+    ensures place { IfOk result (λ place. MatchOption place (All (λ byte. byte ≡ 0) row.new.items)
+        (IsLeading row.new.items)) }
+    ensures coef_steps { coef_steps.new ≤ coef_steps.old + length entries.now }
+    ensures steps { steps.new ≤ steps.old + length entries.now }
+    ensures coef_steps_rise { coef_steps.old ≤ coef_steps.new }
+    ensures steps_rise { steps.old ≤ steps.new }
+{
+    write_row(row, packet, size)?;
+    reduce_by(entries, row, coef_steps, steps);
+    Ok(first_nonzero(row))
+}
+
+impl Basis {
+    /// A basis that keeps no packet, for packets of `m` coefficients and `t` payload bytes. It takes no memory.
+    pub fn new(alloc: Global, m: u8, t: u16) -> Basis
+        ensures { result ≡ record { m = m; t = t; kept = [] } }
+    {
+        Basis {
+            alloc,
+            m,
+            t,
+            entries: Vec::new(alloc),
+            row: Vec::new(alloc),
+        }
+    }
+
+    /// What would become of a packet of M coefficients and T payload bytes of the basis's batch. It keeps nothing.
+    pub fn judge<C: Ledger, L: Ledger>(
+        &mut self,
+        packet: &Packet,
+        coef_steps: &mut Steps<C>,
+        steps: &mut Steps<L>,
+    ) -> Result<Taken, AllocError>
+        requires coefs { length packet.now.coefs ≡ self.old.m }
+        requires payload { length packet.now.payload ≡ self.old.t }
+        requires batch { All (λ other. other.batch ≡ packet.now.batch) self.old.kept }
+        ensures taken { IfOk result (IsTaken self.old.kept packet.now) }
+        ensures same { self.new ≡ self.old }
+        ensures coef_steps { coef_steps.new ≤ coef_steps.old + self.old.m }
+        ensures steps { steps.new ≤ steps.old + self.old.m }
+        ensures coef_steps_rise { coef_steps.old ≤ coef_steps.new }
+        ensures steps_rise { steps.old ≤ steps.new }
+    {
+        let size = usize::from(self.m) + usize::from(self.t);
+        let place = reduce_packet(
+            &self.entries,
+            &mut self.row,
+            packet,
+            size,
+            coef_steps,
+            steps,
+        )?;
+        let Some(place) = place else {
+            return Ok(Taken::Dependent);
+        };
+        if place >= usize::from(self.m) {
+            return Ok(Taken::Contradiction);
+        }
+        Ok(Taken::Kept)
+    }
+
+    /// Offers a packet of M coefficients and T payload bytes of the basis's batch, which is kept where it is new.
+    /// After an `Err` the kept packets are those that were kept before.
+    pub fn offer<C: Ledger, L: Ledger>(
+        &mut self,
+        packet: &Packet,
+        coef_steps: &mut Steps<C>,
+        steps: &mut Steps<L>,
+    ) -> Result<Taken, AllocError>
+        requires coefs { length packet.now.coefs ≡ self.old.m }
+        requires payload { length packet.now.payload ≡ self.old.t }
+        requires batch { All (λ other. other.batch ≡ packet.now.batch) self.old.kept }
+        ensures taken { IfOk result (IsTaken self.old.kept packet.now) }
+        ensures kept { IfOk result (λ taken. self.new
+            ≡ record self.old { kept = kept_with self.old.kept packet.now taken }) }
+        ensures err { OnErr result (self.new ≡ self.old) }
+        ensures coef_steps { coef_steps.new ≤ coef_steps.old + self.old.m }
+        ensures steps { steps.new ≤ steps.old + self.old.m }
+        ensures coef_steps_rise { coef_steps.old ≤ coef_steps.new }
+        ensures steps_rise { steps.old ≤ steps.new }
+    {
+        let size = usize::from(self.m) + usize::from(self.t);
+        let place = reduce_packet(
+            &self.entries,
+            &mut self.row,
+            packet,
+            size,
+            coef_steps,
+            steps,
+        )?;
+        let Some(pivot) = place else {
+            return Ok(Taken::Dependent);
+        };
+        if pivot >= usize::from(self.m) {
+            return Ok(Taken::Contradiction);
+        }
+        let row = mem::replace(&mut self.row, Vec::new(self.alloc));
+        keep(
+            self.alloc,
+            &mut self.entries,
+            packet,
+            pivot,
+            row,
+            coef_steps,
+            steps,
+        )?;
+        Ok(Taken::Kept)
+    }
+
+    /// The number of kept packets.
+    pub fn rank(&self) -> u32
+        ensures value { result ≡ length self.now.kept }
+        ensures within { result ≤ self.now.m }
+    {
+        let _at_most = self.m;
+        self.entries.len() as u32
+    }
+
+    /// The kept packet at this place, as it was offered.
+    pub fn kept(&self, i: u32) -> &Packet
+        requires { i < length self.now.kept }
+        ensures { slice_get self.now.kept i ≡ Some result.now }
+    {
+        &self.entries[i as usize].packet
+    }
+}
