@@ -6,7 +6,7 @@ use Rattle.gf_core.specs.Bytes.{AreBytes, some_bytes}
 use Rattle.gf_core.proofs.SearchLemmas.{Found, cases_bytes}
 use Rattle.bats_model.specs.Session.{SessionData, IsSession, symbols_of}
 use Rattle.bats_model.specs.Agreement.{IsFile, AgreesWithAll, IsSameSymbol}
-use Rattle.bats_model.specs.RightAnswer.{IsOnlyFile, NoFileAgrees, IsFirstOpen, IsRightAnswer, HasOneAnswer}
+use Rattle.bats_model.specs.RightAnswer.{IsOnlyFile, NoFileAgrees, IsFirstOpen, IsRightAnswer, HasOneKindOfAnswer}
 use Rattle.bats_model.specs.declared.packet.Packet.{Packet}
 use Rattle.bats_model.specs.declared.answer.Answer.{Answer}
 use Rattle.bats_model.specs.declared.answer.Answer.TheVariants.{File, Inconsistent, NeedMore}
@@ -98,14 +98,14 @@ no-file session packets none = record {
       ((is_agreeing_with_all-Decides session packets file h.is_file).1 h);
 }
 
-one : (session : SessionData) (packets : List Packet) (answer : Answer) → IsRightAnswer session packets answer → HasOneAnswer session packets
+one : (session : SessionData) (packets : List Packet) (answer : Answer) → IsRightAnswer session packets answer → HasOneKindOfAnswer session packets
 one session packets answer right = record {
   answer = answer;
   right = right;
   others = λ other is. AreAlike-right session packets answer other right is;
 }
 
-pub answer-exists : (session : SessionData) (packets : List Packet) → IsSession session → HasOneAnswer session packets
+pub answer-exists : (session : SessionData) (packets : List Packet) → IsSession session → HasOneKindOfAnswer session packets
 answer-exists session packets limits = elim (cases_bytes session.file_length (is_agreeing_with_all session packets)) [
   | inl found ↦
       let file : List ℕ = found.list in

@@ -13,11 +13,11 @@ use Rattle.gf_core.proofs.LinearRows.{AreRows}
 use Rattle.gf_core.proofs.CombinationLemmas.{length-combination, take-combination, vanishes-combination, vanishes-span}
 use Rattle.bats_model.specs.Session.{SessionData}
 use Rattle.bats_model.specs.Agreement.{IsFile, Agrees, AgreesWithAll, combined_byte}
-use Rattle.bats_model.specs.Kept.{IsCombination, is_combination, is_new, new_after, kept_of, packet_row, Follows, Contradicts, HasContradiction}
+use Rattle.bats_model.specs.Kept.{IsCombination, is_combination, coefs_of, is_new, new_after, kept_of, packet_row, Follows, Contradicts, HasContradiction}
 use Rattle.bats_model.specs.PacketFile.{HasShape}
 use Rattle.bats_model.specs.declared.packet.Packet.{Packet}
 use Rattle.bats_model.proofs.NewPackets.{is_combination-Decides, if_new}
-use Rattle.bats_model.proofs.KeptSpans.{is_of, coefs_of, HasVector, All-kept_of, old-spanned, kept-spans}
+use Rattle.bats_model.proofs.KeptSpans.{is_of, HasVector, All-kept_of, old-spanned, kept-spans}
 use Rattle.bats_model.proofs.PacketRows.{row_byte, row_error, row_byte-front, IsLinear-row_error, row_error-zero, Agrees-zero}
 
 -- ---- rows of packets of one batch

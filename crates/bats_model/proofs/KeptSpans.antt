@@ -10,17 +10,13 @@ use Rattle.gf_core.specs.Bytes.{AreBytes}
 use Rattle.gf_core.specs.Combinations.{IsInSpan}
 use Rattle.gf_core.proofs.LinearRows.{AreRows}
 use Rattle.gf_core.proofs.CombinationLemmas.{IsInSpan-push, IsInSpan-last, IsInSpan-each, IsInSpan-trans}
-use Rattle.bats_model.specs.Kept.{IsCombination, is_combination, vectors_of, is_new, new_after, kept_of}
+use Rattle.bats_model.specs.Kept.{IsCombination, is_combination, coefs_of, vectors_of, is_new, new_after, kept_of}
 use Rattle.bats_model.specs.declared.packet.Packet.{Packet}
 use Rattle.bats_model.proofs.NewPackets.{is_combination-Decides, is_new-Decides, if_new, kept_of-push}
 
 -- the packet is of this batch
 abbrev pub is_of : ℕ → Packet → Bool
 is_of batch packet = packet.batch == batch
-
--- the packets' coefficient vectors, of packets that are of one batch
-abbrev pub coefs_of : List Packet → List (List ℕ)
-coefs_of packets = map (λ packet. packet.coefs) packets
 
 -- the packet has m coefficients, all of them bytes
 pub record HasVector (m : ℕ) (packet : Packet) : Type 0 where

@@ -12,8 +12,9 @@ use Rattle.bats_model.specs.Session.{SessionData, symbols_of}
 use Rattle.bats_model.specs.Symbol.{symbol_byte}
 use Rattle.bats_model.specs.Batch.{BatchData, batch_of, systematic_batch_of, is_systematic_batch, degree_of, entry_of, contributor_of, entries_by, identity_entry}
 use Rattle.bats_model.specs.Values.{coded_value, combined_value}
-use Rattle.bats_model.specs.Coded.{coded_byte, coded_term}
-use Rattle.bats_model.specs.Agreement.{IsFile, Agrees, combined_byte, combined_term}
+use Rattle.bats_model.specs.Values.{coded_term, combined_term}
+use Rattle.bats_model.specs.Coded.{coded_byte}
+use Rattle.bats_model.specs.Agreement.{IsFile, Agrees, combined_byte}
 use Rattle.bats_model.specs.Plain.{IsUnitAt, IsSymbol}
 use Rattle.bats_model.specs.declared.packet.Packet.{Packet}
 use Rattle.bats_model.proofs.SystematicBatches.{batch_of-systematic}
@@ -26,7 +27,7 @@ pub combined_byte-unit : (session : SessionData) (file : List ℕ) (number : ℕ
 unfolding combined_value
 combined_byte-unit session file number coefs j c h l =
     let byte : ℕ → ℕ = λ i. coded_byte session file (batch_of session number) i c in
-    gf_sum-one session.m (combined_term session file number coefs c) j (omega (arith, h.within))
+    gf_sum-one session.m (combined_term session number coefs (λ s. symbol_byte session file s c)) j (omega (arith, h.within))
     (λ i b other. ap (λ (x : ℕ). gf_mul x (byte i)) (zero-elsewhere coefs j h i (omega arith) other) ∙ zero-gf_mul (byte i))
     ∙ ap (λ (x : ℕ). gf_mul x (byte j)) (one-at coefs j h) ∙ one-gf_mul (byte j)
 
@@ -77,13 +78,13 @@ pub coded_byte-systematic : (session : SessionData) (file : List ℕ) (number j 
 unfolding coded_value
 coded_byte-systematic session file number j c f h l some =
     let batch : BatchData = systematic_batch_of session number in
-    let term : ℕ → ℕ = coded_term session file batch j c in
+    let term : ℕ → ℕ = coded_term batch j (λ s. symbol_byte session file s c) in
     let byte : ℕ → ℕ = λ k. symbol_byte session file (contributor_of batch k) c in
     let degree : degree_of batch ≡ min (symbols_of session) (number * session.m + session.m) - number * session.m = degree-systematic session number in
     let off : (k : ℕ) → k < degree_of batch → k ≢ j → term k ≡ 0 = λ k b other.
     ap (λ (x : ℕ). gf_mul x (byte k)) (entry-systematic session number k j b l ∙ cond-false (k == j) 1 0 (ne_eqb k j other))
     ∙ zero-gf_mul (byte k) in
-    ap (λ (b : BatchData). gf_sum (degree_of b) (coded_term session file b j c)) (batch_of-systematic session number h)
+    ap (λ (b : BatchData). gf_sum (degree_of b) (coded_term b j (λ s. symbol_byte session file s c))) (batch_of-systematic session number h)
     ∙ elim (cases_lt j (degree_of batch)) [
       | inl within ↦
           gf_sum-one (degree_of batch) term j within off

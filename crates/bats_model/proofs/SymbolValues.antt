@@ -11,7 +11,7 @@ use Rattle.bats_model.specs.Bytes.{AreBytes}
 use Rattle.bats_model.specs.Session.{SessionData, symbols_of}
 use Rattle.bats_model.specs.Symbol.{symbol_byte}
 use Rattle.bats_model.specs.Batch.{BatchData, batch_of, degree_of, contributor_of, entry_of}
-use Rattle.bats_model.specs.Values.{coded_value, combined_value, packet_value}
+use Rattle.bats_model.specs.Values.{coded_value, combined_value, packet_value, AreByteValues}
 use Rattle.bats_model.specs.Coded.{coded_byte, coded_payload}
 use Rattle.bats_model.specs.declared.packet.Packet.{Packet}
 use Rattle.bats_model.proofs.EachBatch.{contributor_of-lt}
@@ -42,10 +42,6 @@ combined_value-congruence session number coefs x y same =
 pub packet_value-congruence : (session : SessionData) (packet : Packet) (x y : ℕ → ℕ) → AreSameValues session x y
     → packet_value session packet x ≡ packet_value session packet y
 packet_value-congruence session packet x y same = combined_value-congruence session packet.batch packet.coefs x y same
-
--- values below 256 for each symbol of the session
-abbrev pub AreByteValues : SessionData → (ℕ → ℕ) → Type 0
-AreByteValues session x = (s : ℕ) → s < symbols_of session → x s < 256
 
 pub coded_value-lt : (session : SessionData) (number j : ℕ) (x : ℕ → ℕ) → AreByteValues session x
     → coded_value (batch_of session number) j x < 256

@@ -1,23 +1,15 @@
 -- Agreement of a file with received packets: which files a list of packets leaves possible.
 use Rattle.std.specs.Prelude.{ℕ, ◌≡◌, ◌<◌, List, All, length, slice_index}
-use Rattle.gf_core.specs.Field.{gf_mul}
 use Rattle.bats_model.specs.Bytes.{AreBytes}
 use Rattle.bats_model.specs.Session.{SessionData}
 use Rattle.bats_model.specs.Symbol.{symbol_byte}
-use Rattle.bats_model.specs.Batch.{batch_of}
 use Rattle.bats_model.specs.Values.{combined_value}
-use Rattle.bats_model.specs.Coded.{coded_byte}
 use Rattle.bats_model.specs.declared.packet.Packet.{Packet}
 
 -- a file of the session: bytes, as many as the session declares
 pub record IsFile (session : SessionData) (file : List ℕ) : Type 0 where
   pub size : length file ≡ session.file_length
   pub bytes : AreBytes file
-
--- what coefficient j adds to byte c of a combination of the batch's coded packets
-abbrev pub combined_term : SessionData → List ℕ → ℕ → List ℕ → ℕ → ℕ → ℕ
-combined_term session file number coefs c j =
-    gf_mul (slice_index coefs j) (coded_byte session file (batch_of session number) j c)
 
 -- byte c of the combination of a batch's coded packets: the sum of the coefficients times their bytes
 abbrev pub combined_byte : SessionData → List ℕ → ℕ → List ℕ → ℕ → ℕ

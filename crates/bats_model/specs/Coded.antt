@@ -1,16 +1,10 @@
 -- Coded packets of a file: contributors times generator.
 use Rattle.std.specs.Prelude.{ℕ, ◌==◌, if◌then◌else◌, List, map}
 use Rattle.std.specs.List.{range_with_len}
-use Rattle.gf_core.specs.Field.{gf_mul}
 use Rattle.bats_model.specs.Session.{SessionData}
 use Rattle.bats_model.specs.Symbol.{symbol_byte}
-use Rattle.bats_model.specs.Batch.{BatchData, contributor_of, entry_of}
+use Rattle.bats_model.specs.Batch.{BatchData}
 use Rattle.bats_model.specs.Values.{coded_value}
-
--- what contributor k adds to byte c of coded packet j
-abbrev pub coded_term : SessionData → List ℕ → BatchData → ℕ → ℕ → ℕ → ℕ
-coded_term session file batch j c k =
-    gf_mul (entry_of batch k j) (symbol_byte session file (contributor_of batch k) c)
 
 -- byte c of coded packet j of a batch: the sum, over the contributors, of the generator's entry times the
 -- contributor's byte

@@ -1,5 +1,5 @@
--- New packets, kept packets and packets that contradict these. Combinations are those of gf_core, so coefficients are
--- told apart as bytes.
+-- New packets, kept packets and packets that contradict these. Numbers are compared as they are: that coefficients and
+-- payload are bytes is part of a packet's shape.
 use Rattle.std.specs.Prelude.{ℕ, ◌≡◌, ◌==◌, not, if◌then◌else◌, Bool, List, [], ◌∷◌, ◌++◌, map, filter, length, take, slice_get, Option, Some}
 use Rattle.std.specs.Str.{bytes_eq}
 use Rattle.gf_core.specs.Bytes.{some_bytes}
@@ -12,14 +12,22 @@ use Rattle.bats_model.specs.declared.packet.Packet.{Packet}
 abbrev pub IsCombination : List (List ℕ) → List ℕ → Type 0
 IsCombination vectors vector = IsInSpan (length vector) vectors vector
 
--- whether it is one; no factors are ever tried
+-- whether it is one, as a test: a search over all lists of factors, which says what is meant and is never run
 abbrev pub is_combination : List (List ℕ) → List ℕ → Bool
 is_combination vectors vector =
     some_bytes (length vectors) (λ factors. bytes_eq (combination (length vector) factors vectors) vector)
 
+-- the packets of a batch, in order
+abbrev pub packets_in : ℕ → List Packet → List Packet
+packets_in batch packets = filter (λ packet. packet.batch == batch) packets
+
+-- the coefficient vectors of packets
+abbrev pub coefs_of : List Packet → List (List ℕ)
+coefs_of packets = map (λ packet. packet.coefs) packets
+
 -- the coefficient vectors of a batch's packets, in order
 abbrev pub vectors_of : ℕ → List Packet → List (List ℕ)
-vectors_of batch packets = map (λ packet. packet.coefs) (filter (λ packet. packet.batch == batch) packets)
+vectors_of batch packets = coefs_of (packets_in batch packets)
 
 -- whether the packet is new after the earlier ones: its vector is no combination of those of its batch
 abbrev pub is_new : List Packet → Packet → Bool
@@ -35,7 +43,7 @@ new_after earlier (packet ∷ packets) =
 
 -- the kept packets of a batch: its new ones, in their order, as they came
 abbrev pub kept_of : ℕ → List Packet → List Packet
-kept_of batch packets = filter (λ packet. packet.batch == batch) (new_after [] packets)
+kept_of batch packets = packets_in batch (new_after [] packets)
 
 -- how many packets of a list are kept
 abbrev pub kept_count : List Packet → ℕ
@@ -51,9 +59,10 @@ packet_row packet = packet.coefs ++ packet.payload
 abbrev pub Follows : List Packet → Packet → Type 0
 Follows kept packet = IsCombination (map packet_row kept) (packet_row packet)
 
--- the vector is a combination of the kept ones, and the payload isn't the same combination of theirs
+-- the vector is a combination of those that are kept of its batch, which are independent, and the payload isn't the
+-- same combination of theirs
 pub record Contradicts (kept : List Packet) (packet : Packet) : Type 0 where
-  pub combination : IsCombination (map (λ other. other.coefs) kept) packet.coefs
+  pub combination : IsCombination (coefs_of kept) packet.coefs
   pub differs : ¬ Follows kept packet
 
 -- some packet of the list contradicts the kept packets of its batch before it

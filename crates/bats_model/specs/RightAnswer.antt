@@ -30,13 +30,6 @@ IsRightAnswer session packets (File file) = IsOnlyFile session packets file
 IsRightAnswer session packets Inconsistent = NoFileAgrees session packets
 IsRightAnswer session packets (NeedMore at_symbol first second) = IsFirstOpen session packets at_symbol first second
 
--- both answers are of one kind
-abbrev pub AreSameKind : Answer → Answer → Type 0
-AreSameKind (File _) (File _) = Unit {0}
-AreSameKind Inconsistent Inconsistent = Unit {0}
-AreSameKind (NeedMore _ _ _) (NeedMore _ _ _) = Unit {0}
-AreSameKind _ _ = ⊥
-
 -- what all right answers to the same packets have in common: the kind, and then the file or the first open symbol
 abbrev pub AreAlike : Answer → Answer → Type 0
 AreAlike (File file) (File other) = file ≡ other
@@ -45,7 +38,7 @@ AreAlike (NeedMore at_symbol _ _) (NeedMore at_other _ _) = at_symbol ≡ at_oth
 AreAlike _ _ = ⊥
 
 -- some answer is right for these packets, and each other right one is like it
-pub record HasOneAnswer (session : SessionData) (packets : List Packet) : Type 0 where
+pub record HasOneKindOfAnswer (session : SessionData) (packets : List Packet) : Type 0 where
   pub answer : Answer
   pub right : IsRightAnswer session packets answer
   pub others : (other : Answer) → IsRightAnswer session packets other → AreAlike answer other

@@ -1,16 +1,22 @@
 //! Laws on right answers and kept packets, each the contract of a function with an empty body.
-ghost use Rattle.std.specs.Prelude.{ℕ, ◌↔◌, List, All};
+ghost use Rattle.std.specs.Prelude.{ℕ, ◌↔◌, IsTrue, List, All};
 ghost use Rattle.bats_model.specs.Session.{SessionData, IsSession};
 ghost use Rattle.bats_model.specs.Agreement.{AgreesWithAll};
-ghost use Rattle.bats_model.specs.RightAnswer.{HasOneAnswer};
+ghost use Rattle.bats_model.specs.RightAnswer.{HasOneKindOfAnswer};
 ghost use Rattle.bats_model.specs.PacketFile.{HasShape};
-ghost use Rattle.bats_model.specs.Kept.{kept_of, HasContradiction};
+ghost use Rattle.bats_model.specs.Kept.{IsCombination, is_combination, kept_of, HasContradiction};
 ghost use Rattle.bats_model.specs.declared.packet.Packet.{Packet};
 
 /// Each list of packets has a right answer, and all its right answers are of one kind, with one file or one first open
 /// symbol.
 pub fn each_list_has_an_answer()
-    ensures { (session : SessionData) (packets : List Packet) → IsSession session → HasOneAnswer session packets }
+    ensures { (session : SessionData) (packets : List Packet) → IsSession session → HasOneKindOfAnswer session packets }
+{}
+
+/// The test of a combination tells where there are factors.
+pub fn combinations_are_told()
+    ensures { (vectors : List (List ℕ)) (vector : List ℕ)
+        → IsTrue (is_combination vectors vector) ↔ IsCombination vectors vector }
 {}
 
 /// A file agrees with a list of packets exactly where it agrees with the kept packets of each batch, and no packet of the

@@ -11,7 +11,7 @@ some_below zero test = false
 some_below (suc n) test = test n || some_below n test
 
 -- whether some list of n bytes passes the test. It decides a statement that begins with "there are bytes", where the
--- logic has no excluded middle; no list is ever tried
+-- logic has no excluded middle; it is never run
 unfoldable pub some_bytes : ℕ → (List ℕ → Bool) → Bool
 some_bytes zero test = test []
 some_bytes (suc n) test = some_below 256 (λ byte. some_bytes n (λ bytes. test (byte ∷ bytes)))

@@ -3,7 +3,8 @@ use Rattle.std.specs.Prelude.{ℕ, ◌≡◌, List, [], ◌∷◌, length, repli
 use Rattle.gf_core.specs.Bytes.{AreBytes}
 use Rattle.gf_core.specs.Rows.{add_scaled_row}
 
--- the sum of the rows, each times its factor, as one row of this width: zeros where no row or no factor is left
+-- the sum of the rows, each times its factor, as one row of this width: a longer row is cut, and a missing entry, row
+-- or factor counts as zeros
 unfoldable pub combination : ℕ → List ℕ → List (List ℕ) → List ℕ
 combination width [] rows = replicate width 0
 combination width (c ∷ cs) [] = replicate width 0
