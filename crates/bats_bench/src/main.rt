@@ -1,5 +1,5 @@
-//! Runs each row kernel once on fixed rows and prints a digest of what it leaves. With the word `time` it times
-//! the addition of a multiple of a row beside a plain copy of as many bytes.
+//! Runs each row kernel once on fixed rows and prints a digest of what it leaves. With the word `time` it times each
+//! kernel beside a plain copy of as many bytes.
 #![tactic(auto)]
 
 use std::env::Env;
@@ -20,7 +20,7 @@ fn is_timed<R: Env + AllocGlobal>(rt: &R) -> io::Result<bool> {
 
 fn main(rt: HostRuntime) -> io::Result<()> {
     if is_timed(&rt)? {
-        timing::print_ratios(&rt)
+        timing::print_all_times(&rt)
     } else {
         digests::print_digests::<Brand, HostRuntime>(&rt, Blank::new(1))
     }

@@ -1,15 +1,38 @@
-ghost use Rattle.std.specs.Prelude.{◌≡◌, ◌≤◌, length};
+ghost use Rattle.std.specs.Prelude.{◌≡◌, IfOk, length};
 
 use gf_core::Gf;
-use gf_rows::add_scaled;
+use gf_rows::{Multiple, add_four, add_scaled, scale_row};
+use std::alloc::Global;
 use std::io;
 use std::time::{Clock, Instant};
 
-// How many bytes are gone over between two readings of the clock.
-const BYTES_PER_ROUND: usize = 1 << 22;
+// How many bytes are gone over between two readings of the clock, at least.
+const BYTES_PER_ROUND: usize = 1 << 21;
 
-// How often each row length is timed. The best round counts.
+// How often each kernel is timed. The best round counts.
 const ROUNDS: u32 = 25;
+
+// What is done to each row of a buffer.
+#[derive(Clone, Copy)]
+enum Kernel {
+    Copy,
+    AddOne,
+    AddScaled,
+    ScaleRow,
+    AddFour,
+}
+
+impl Kernel {
+    fn name(self) -> &'static str {
+        match self {
+            Kernel::Copy => "copy",
+            Kernel::AddOne => "add_scaled_by_1",
+            Kernel::AddScaled => "add_scaled",
+            Kernel::ScaleRow => "scale_row",
+            Kernel::AddFour => "add_four",
+        }
+    }
+}
 
 #[inline(never)]
 fn copy_row(dst: &mut [u8], src: &[u8])
@@ -18,11 +41,43 @@ fn copy_row(dst: &mut [u8], src: &[u8])
     dst.copy_from_slice(src);
 }
 
-#[inline(never)]
-fn add_row(dst: &mut [u8], factor: Gf, src: &[u8])
+// Adds four multiples of one row.
+fn add_row_four_times(dst: &mut [u8], src: &[u8])
     requires { length dst.old ≡ length src.now }
 {
-    add_scaled(dst, factor, src);
+    let multiple = Multiple {
+        factor: Gf::new(0xB7),
+        row: src,
+    };
+    add_four(dst, &multiple, &multiple, &multiple, &multiple);
+}
+
+fn run(kernel: Kernel, dst: &mut [u8], src: &[u8])
+    requires { length dst.old ≡ length src.now }
+{
+    match kernel {
+        Kernel::Copy => copy_row(dst, src),
+        Kernel::AddOne => add_scaled(dst, Gf::ONE, src),
+        Kernel::AddScaled => add_scaled(dst, Gf::new(0xB7), src),
+        Kernel::ScaleRow => scale_row(dst, Gf::new(0xB7)),
+        Kernel::AddFour => add_row_four_times(dst, src),
+    }
+}
+
+// Runs the kernel on each whole row of the buffers, several times.
+fn go_over(kernel: Kernel, dst: &mut [u8], src: &[u8], size: usize, rows: usize)
+    requires { length dst.old ≡ length src.now }
+{
+    let mut at = 0;
+    for _ in 0..rows {
+        if at > dst.len() || size > dst.len() - at {
+            at = 0;
+        }
+        if at < dst.len() && size <= dst.len() - at {
+            run(kernel, &mut dst[at..at + size], &src[at..at + size]);
+            at += size;
+        }
+    }
 }
 
 // The nanoseconds since a reading of the clock.
@@ -35,55 +90,63 @@ fn nanos_since(rt: &impl Clock, start: Instant) -> io::Result<u64> {
     )
 }
 
-fn time_copies(rt: &impl Clock, dst: &mut [u8], src: &[u8], times: usize) -> io::Result<u64>
+// The picoseconds that the kernel takes for one row, in the best of several rounds.
+fn best_time(
+    rt: &impl Clock,
+    kernel: Kernel,
+    dst: &mut [u8],
+    src: &[u8],
+    size: usize,
+) -> io::Result<u64>
     requires { length dst.old ≡ length src.now }
 {
-    let start = Instant::now(rt)?;
-    for _ in 0..times {
-        copy_row(dst, src);
-    }
-    nanos_since(rt, start)
-}
-
-fn time_sums(rt: &impl Clock, dst: &mut [u8], src: &[u8], times: usize) -> io::Result<u64>
-    requires { length dst.old ≡ length src.now }
-{
-    let start = Instant::now(rt)?;
-    for _ in 0..times {
-        add_row(dst, Gf::new(0xB7), src);
-    }
-    nanos_since(rt, start)
-}
-
-// The least ratio of the two times, in hundredths, over several rounds in turn.
-fn best_ratio(rt: &impl Clock, dst: &mut [u8], src: &[u8]) -> io::Result<u64>
-    requires { length dst.old ≡ length src.now }
-{
-    let times = BYTES_PER_ROUND / src.len().max(1);
+    let rows = (BYTES_PER_ROUND / size.max(1)).max(1);
     let mut best = u64::MAX;
     for _ in 0..ROUNDS {
-        let copies = time_copies(rt, dst, src, times)?;
-        let sums = time_sums(rt, dst, src, times)?;
-        best = best.min(sums.saturating_mul(100) / copies.max(1));
+        let start = Instant::now(rt)?;
+        go_over(kernel, dst, src, size, rows);
+        best = best.min(nanos_since(rt, start)?);
     }
-    Ok(best)
+    Ok(best.saturating_mul(1000) / rows as u64)
 }
 
-// Times rows of one length and prints the best ratio.
-fn print_ratio(rt: &(impl Clock + Print), size: usize) -> io::Result<()>
-    requires { size ≤ 2048 }
+// Times each kernel on the rows of one buffer.
+fn print_times(rt: &(impl Clock + Print), dst: &mut [u8], src: &[u8], size: usize) -> io::Result<()>
+    requires { length dst.old ≡ length src.now }
 {
-    let src = [0x5A; 2048];
-    let mut dst = [0; 2048];
-    let best = best_ratio(rt, &mut dst[..size], &src[..size])?;
-    let whole = best / 100;
-    let hundredths = best % 100;
-    println!(rt; "{size} bytes: add_scaled takes {whole}.{hundredths:02} times as long as a copy")
+    let buffer = dst.len();
+    for kernel in [
+        Kernel::Copy,
+        Kernel::AddOne,
+        Kernel::AddScaled,
+        Kernel::ScaleRow,
+        Kernel::AddFour,
+    ] {
+        let time = best_time(rt, kernel, dst, src, size)?;
+        println!(rt; "{buffer} {size} {} {time}", kernel.name())?;
+    }
+    Ok(())
 }
 
-/// Prints, for three row lengths, how much longer the addition of a multiple takes than a copy.
-pub fn print_ratios(rt: &(impl Clock + Print)) -> io::Result<()> {
-    print_ratio(rt, 64)?;
-    print_ratio(rt, 1024)?;
-    print_ratio(rt, 2048)
+// A buffer of this many bytes.
+fn buffer(alloc: Global, size: usize, byte: u8) -> io::Result<Vec<u8>>
+    ensures { IfOk result (λ v. length v.items ≡ size) }
+{
+    Ok(vec![in alloc; byte; size]?)
+}
+
+fn print_times_in(rt: &(impl Clock + Print + AllocGlobal), size: usize) -> io::Result<()> {
+    let src = buffer(rt.alloc(), size, 0x5A)?;
+    let mut dst = buffer(rt.alloc(), size, 0)?;
+    for row in [16, 64, 256, 1024, 2048] {
+        print_times(rt, &mut dst, &src, row)?;
+    }
+    Ok(())
+}
+
+/// Prints, for two sizes of a buffer and five row lengths, how many picoseconds each kernel takes for a row. Each line
+/// has the bytes of the buffer, those of a row, the kernel and its time.
+pub fn print_all_times(rt: &(impl Clock + Print + AllocGlobal)) -> io::Result<()> {
+    print_times_in(rt, 1 << 14)?;
+    print_times_in(rt, 1 << 20)
 }
