@@ -10,7 +10,8 @@ use Rattle.bats_model.specs.declared.item.Item.TheVariants as items
 use Rattle.bats_model.specs.declared.read_end.ReadEnd.{ReadEnd}
 use Rattle.bats_model.specs.declared.read_end.ReadEnd.TheVariants as ends
 use Rattle.bats_format.specs.Reader.{ReaderData, StandsFor, IsOpen, GivesItem, RefusesInput, Refuses, IsKept, BeginsAtNothing}
-use Rattle.bats_format.specs.Taking.{TakesHeader, StopsFirst, FirstStops, IsStop, StopsAt, RecordStops, TakesNext}
+use Rattle.bats_format.specs.declared.buffers.Buffers.{Buffers}
+use Rattle.bats_format.specs.Taking.{FitsSpare, IsSpareOf, TakesHeader, StopsFirst, FirstStops, IsStop, StopsAt, RecordStops, TakesNext}
 use Rattle.bats_format.proofs.RecordLemmas.{length-header_record}
 use Rattle.bats_format.proofs.PacketFiles.{IsPacketFile-more, IsPacketFile-header}
 use Rattle.bats_format.proofs.Refusals.{longest_front}
@@ -63,6 +64,12 @@ pub BeginsAtNothing-some : (session : Option SessionData) (some : SessionData) (
     → BeginsAtNothing session records offset
 BeginsAtNothing-some session some records offset e =
     subst (λ (s : Option SessionData). BeginsAtNothing s records offset) (sym e) tt
+
+-- spare buffers
+pub IsSpareOf-fits : (session : Option SessionData) (some : SessionData) (spare : Option Buffers) → session ≡ Some some
+    → FitsSpare some.m some.t spare → IsSpareOf session spare
+IsSpareOf-fits session some None e h = tt
+IsSpareOf-fits session some (Some buffers) e h = subst (λ (s : Option SessionData). IsSpareOf s (Some buffers)) (sym e) h
 
 -- ---- the first header
 

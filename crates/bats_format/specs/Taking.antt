@@ -9,12 +9,29 @@ use Rattle.bats_model.specs.Refusal.{RefusesHeader, header_size, first_refusal}
 use Rattle.bats_model.specs.declared.item.Item.{Item}
 use Rattle.bats_model.specs.declared.read_end.ReadEnd.{ReadEnd}
 use Rattle.bats_model.specs.declared.read_end.ReadEnd.TheVariants as ends
+use Rattle.bats_format.specs.declared.buffers.Buffers.{Buffers}
 use Rattle.bats_format.specs.declared.records.Tag.{Tag}
 use Rattle.bats_format.specs.declared.records.Tag.TheVariants as tags
 
 -- bytes of a record at most: a packet's with 32 coefficients and 2,048 bytes of payload
 abbrev pub most_of_record : ℕ
 most_of_record = 2085
+
+-- buffers for a packet of m coefficients and t bytes of payload
+pub record FitsPacket (m t : ℕ) (buffers : Buffers) : Type 0 where
+  pub coefs : length buffers.coefs.items ≡ m
+  pub payload : length buffers.payload.items ≡ t
+
+-- buffers that are left over, if there are some, are for such a packet
+abbrev pub FitsSpare : ℕ → ℕ → Option Buffers → Type 0
+FitsSpare m t None = Unit {0}
+FitsSpare m t (Some buffers) = FitsPacket m t buffers
+
+-- and so in a reader, which has none before it has a session
+abbrev pub IsSpareOf : Option SessionData → Option Buffers → Type 0
+IsSpareOf session None = Unit {0}
+IsSpareOf None (Some buffers) = ⊥
+IsSpareOf (Some session) (Some buffers) = FitsPacket session.m session.t buffers
 
 -- no whole record stands at the front of these bytes, which are those at the offset: none of the session, or, where no
 -- session is known yet, no header of any

@@ -2,6 +2,7 @@
 //! its place. The definitions stand in bats_model (`Records`, `PacketFile`, `Refusal`).
 #![tactic(auto)]
 
+mod buffers;
 mod filling;
 mod header;
 mod laws;

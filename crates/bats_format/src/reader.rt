@@ -1,5 +1,6 @@
 ghost use Rattle.std.specs.Prelude.{◌≡◌, [], None, Some, false, option_map};
 
+use crate::buffers::Buffers;
 use crate::records::{record_size, take_first, take_record};
 use bats_io::Source;
 use bats_model::{Item, ReadEnd, Session};
@@ -14,12 +15,14 @@ pub struct Reader {
     offset: u64,
     ended: bool,
     refused: Option<ReadEnd>,
+    // Memory for the next packet, where it was taken and a repeat of the header came.
+    spare: Option<Buffers>,
 }
 
 impl Model for Reader {
     ghost use Rattle.std.specs.Prelude.{◌≤◌, ◌*◌};
     ghost use Rattle.bats_model.specs.PacketFile.{most_records};
-    ghost use Rattle.bats_format.specs.Taking.{most_of_record};
+    ghost use Rattle.bats_format.specs.Taking.{most_of_record, IsSpareOf};
     ghost use Rattle.bats_format.specs.Reader.{ReaderData, BeginsAtNothing, IsKept};
 
     ghost Value = { ReaderData };
@@ -33,7 +36,8 @@ impl Model for Reader {
     } };
 
     ghost invariant = { λ r. (r.records ≤ most_records) × (r.offset ≤ most_of_record * r.records)
-        × BeginsAtNothing r.session r.records r.offset × IsKept r.refused };
+        × BeginsAtNothing r.session r.records r.offset × IsKept r.refused
+        × IsSpareOf r.session r.spare };
 }
 
 impl Reader {
@@ -56,6 +60,7 @@ impl Reader {
             offset: 0,
             ended: false,
             refused: None,
+            spare: None,
         }
     }
 
@@ -68,7 +73,7 @@ impl Reader {
 
     /// The next record. `Ok(None)` is the end of the input after a whole record. After a refusal but want of memory,
     /// and after `Ok(None)`, each later call answers the same and reads nothing. Want of memory comes before anything is
-    /// read, and leaves the reader as it was.
+    /// read, and leaves the reader as it was. Memory is taken for a packet, and kept over repeats of the header.
     pub fn next<S: Source>(
         &mut self,
         alloc: Global,
@@ -128,7 +133,14 @@ impl Reader {
             (S.state source.new)
             self.old self.new result }
     {
-        match take_record(alloc, source, session, self.records, self.offset) {
+        match take_record(
+            alloc,
+            source,
+            session,
+            self.records,
+            self.offset,
+            &mut self.spare,
+        ) {
             Ok(Some(item)) => {
                 self.records += 1;
                 self.offset += record_size(session, &item);

@@ -3,8 +3,9 @@ ghost use Rattle.std.specs.Int.{w32, to_be_bytes};
 ghost use Rattle.bats_model.specs.Session.{IsSession};
 ghost use Rattle.bats_model.specs.PacketFile.{IsItemAt, record_of, most_records};
 ghost use Rattle.bats_model.specs.Records.{header_tag, packet_tag};
-ghost use Rattle.bats_format.specs.Taking.{most_of_record, TakesFirst, TagIs, byte_of, TakesTag, TakesBody, TakesRecord};
+ghost use Rattle.bats_format.specs.Taking.{most_of_record, FitsPacket, FitsSpare, TakesFirst, TagIs, byte_of, TakesTag, TakesBody, TakesRecord};
 
+use crate::buffers::{Buffers, take_buffers};
 use crate::filling::{fill, fill_part, fill_three};
 use crate::header::{header_bytes, read_header};
 use bats_io::Source;
@@ -121,16 +122,14 @@ fn number_in(bytes: &[u8; 4]) -> u32
     BigEndian::read_u32(bytes)
 }
 
-// Reads what follows the first byte of a packet record, into M and T bytes of memory.
+// Reads what follows the first byte of a packet record, into these buffers.
 fn take_packet<S: Source>(
     source: &mut S,
     session: &Session,
     at: u64,
-    mut coefs: Vec<u8>,
-    mut payload: Vec<u8>,
+    buffers: Buffers,
 ) -> Result<Item, ReadEnd>
-    requires coefs { length coefs.items ≡ session.now.m }
-    requires payload { length payload.items ≡ session.now.t }
+    requires fit { FitsPacket session.now.m session.now.t buffers }
     requires session { IsSession session.now }
     ensures { TakesBody
         (S.state source.old)
@@ -138,6 +137,8 @@ fn take_packet<S: Source>(
         session.now at packet_tag result }
 {
     let mut number = [0; 4];
+    let mut coefs = buffers.coefs;
+    let mut payload = buffers.payload;
     fill_three(source, at, &mut number, &mut coefs, &mut payload)?;
     Ok(Item::Packet {
         at,
@@ -149,50 +150,55 @@ fn take_packet<S: Source>(
     })
 }
 
-// Reads what follows the first byte of a record, of a packet into M and T bytes of memory.
+// Reads what follows the first byte of a record, of a packet into these buffers, which are spare else.
 fn take_body<S: Source>(
     source: &mut S,
     session: &Session,
     at: u64,
     tag: Tag,
-    coefs: Vec<u8>,
-    payload: Vec<u8>,
+    buffers: Buffers,
+    spare: &mut Option<Buffers>,
 ) -> Result<Item, ReadEnd>
-    requires coefs { length coefs.items ≡ session.now.m }
-    requires payload { length payload.items ≡ session.now.t }
+    requires fit { FitsPacket session.now.m session.now.t buffers }
+    requires spare { FitsSpare session.now.m session.now.t spare.old }
     requires session { IsSession session.now }
-    ensures { TakesBody
+    ensures body { TakesBody
         (S.state source.old)
         (S.state source.new)
         session.now at (byte_of tag) result }
+    ensures spare { FitsSpare session.now.m session.now.t spare.new }
 {
     match tag {
-        Tag::Header => take_repeat(source, session, at),
-        Tag::Packet => take_packet(source, session, at, coefs, payload),
+        Tag::Header => {
+            *spare = Some(buffers);
+            take_repeat(source, session, at)
+        }
+        Tag::Packet => take_packet(source, session, at, buffers),
     }
 }
 
-// Reads the next record, of a packet into M and T bytes of memory.
+// Reads the next record, of a packet into these buffers, which are spare where a header follows.
 fn take_into<S: Source>(
     source: &mut S,
     session: &Session,
     records: u32,
     at: u64,
-    coefs: Vec<u8>,
-    payload: Vec<u8>,
+    buffers: Buffers,
+    spare: &mut Option<Buffers>,
 ) -> Result<Option<Item>, ReadEnd>
-    requires coefs { length coefs.items ≡ session.now.m }
-    requires payload { length payload.items ≡ session.now.t }
+    requires fit { FitsPacket session.now.m session.now.t buffers }
+    requires spare { FitsSpare session.now.m session.now.t spare.old }
     requires session { IsSession session.now }
     requires records { records ≤ most_records }
-    ensures { TakesRecord
+    ensures next { TakesRecord
         (S.state source.old)
         (S.state source.new)
         session.now records at result }
+    ensures spare { FitsSpare session.now.m session.now.t spare.new }
 {
     match take_tag(source, records, at) {
         Ok(None) => Ok(None),
-        Ok(Some(tag)) => match take_body(source, session, at, tag, coefs, payload) {
+        Ok(Some(tag)) => match take_body(source, session, at, tag, buffers, spare) {
             Ok(item) => Ok(Some(item)),
             Err(end) => Err(end),
         },
@@ -201,23 +207,25 @@ fn take_into<S: Source>(
 }
 
 /// Reads the next record after the first ones, which is `None` at the end of the input. Memory is taken before anything
-/// is read.
+/// is read, and only where no spare buffers are left from an earlier call.
 pub(crate) fn take_record<S: Source>(
     alloc: Global,
     source: &mut S,
     session: &Session,
     records: u32,
     at: u64,
+    spare: &mut Option<Buffers>,
 ) -> Result<Option<Item>, ReadEnd>
-    requires { records ≤ most_records }
-    ensures { TakesRecord
+    requires records { records ≤ most_records }
+    requires spare { FitsSpare session.now.m session.now.t spare.old }
+    ensures next { TakesRecord
         (S.state source.old)
         (S.state source.new)
         session.now records at result }
+    ensures spare { FitsSpare session.now.m session.now.t spare.new }
 {
-    let coefs = vec![in alloc; 0; usize::from(session.m())]?;
-    let payload = vec![in alloc; 0; usize::from(session.t())]?;
-    take_into(source, session, records, at, coefs, payload)
+    let buffers = take_buffers(alloc, session.m(), session.t(), spare)?;
+    take_into(source, session, records, at, buffers, spare)
 }
 
 /// Bytes of the record of an item.

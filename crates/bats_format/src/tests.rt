@@ -141,6 +141,11 @@ fn reads_repeats_of_the_header(rt: HostRuntime) -> Result<(), Fail> {
             count_items(alloc, input(alloc, 50, &FILE[..32])?, most),
             Ok(4)
         );
+        let mut between = input(alloc, 32, &FILE[..32])?;
+        between.extend_from_slice(&FILE[32..41])?;
+        between.extend_from_slice(&FILE[..32])?;
+        between.extend_from_slice(&FILE[41..])?;
+        assert_eq!(rt; count_items(alloc, between, most), Ok(5));
         let mut other = input(alloc, 50, &FILE[..32])?;
         if let Some(seed) = other.last_mut() {
             *seed = 1;

@@ -1,4 +1,4 @@
-use Rattle.std.proofs.Common.{ℕ, ◌≡◌, ◌∷◌, refl, sym, subst}
+use Rattle.std.proofs.Common.{ℕ, ◌∷◌, refl, sym, subst}
 use Rattle.bats_model.specs.declared.read_end.ReadEnd.TheVariants as ends
 use Rattle.bats_format.specs.Taking.{IsStop}
 use Rattle.bats_format.proofs.Reading.{IsStop-full, IsStop-tag}

@@ -13,9 +13,9 @@ returns-in_err-fill_three g c =
 pub returns : goal.returns
 returns g c =
     let coefs : c.into.result ≡ c.fill_three.new.second =
-    c.into.ensures ∙ written _ c.args.coefs.items c.fill_three.new.second c.args.coefs.ok.0 (c.fill_three.auto.second ∙ ap length c.deref_mut.ensures.value) in
+    c.into.ensures ∙ written _ c.args.buffers.coefs.items c.fill_three.new.second c.args.buffers.coefs.ok.0 (c.fill_three.auto.second ∙ ap length c.deref_mut.ensures.value) in
     let payload : c.into-2.result ≡ c.fill_three.new.third =
-    c.into-2.ensures ∙ written _ c.args.payload.items c.fill_three.new.third c.args.payload.ok.0 (c.fill_three.auto.third ∙ ap length c.deref_mut-2.ensures.value) in
+    c.into-2.ensures ∙ written _ c.args.buffers.payload.items c.fill_three.new.third c.args.buffers.payload.ok.0 (c.fill_three.auto.third ∙ ap length c.deref_mut-2.ensures.value) in
     rw (coefs, payload) (TakesItem-packet c.args.session.now c.fill_three.new.first c.fill_three.new.second c.fill_three.new.third
     c.number_in.ensures c.number_in.type_inv
     (omega (arith, c.fill_three.auto.second, ap length c.deref_mut.ensures.value))

@@ -3,12 +3,12 @@ use Rattle.bats_format.specs.Reader.{ReaderData}
 use Rattle.bats_tool.proofs.ShowSteps.{HasShown-fresh, Shows-finish}
 use Rattle.bats_tool.proofs.show.show_records.Goals as goal
 
-pub loop-finish-init : goal.loop-finish-init
-loop-finish-init g c = record {
+pub loop-reader-init : goal.loop-reader-init
+loop-reader-init g c = record {
   counted = sym (ap (λ (reader : ReaderData). reader.records) c.new-reader.ensures.fresh);
   shown = HasShown-fresh _ c.new-reader.result c.new-reader.ensures.nothing_read c.new-reader.ensures.fresh;
 }
 
 pub returns-in-Some : goal.returns-in-Some
 returns-in-Some g c = Shows-finish _ _ c.show_next.new.reader _ _ c.in_ok-finish.field-0 c.in-Some.finish c.in-Some.is
-    (c.in_ok-finish.ensures.shown _ c.loop-finish.invariant.shown)
+    (c.in_ok-finish.ensures.shown _ c.loop-reader.invariant.shown)
