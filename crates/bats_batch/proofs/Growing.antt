@@ -1,17 +1,17 @@
 -- A basis with one packet more, and how many packets it has at most.
-use Rattle.std.proofs.Common.{ℕ, ◌≡◌, ◌≢◌, ◌<◌, ◌≤◌, ◌+◌, ◌∙◌, Bool, true, List, [], ◌∷◌, ◌++◌, length, get_or, map, sym, ap, subst, arith, eqb, inl, inr}
+use Rattle.std.proofs.Common.{ℕ, ◌≡◌, ◌≢◌, ◌<◌, ◌≤◌, ◌+◌, ◌∙◌, true, List, [], ◌∷◌, ◌++◌, length, get_or, map, sym, ap, subst, arith, eqb, inl, inr}
 use Rattle.std.specs.Prelude.{All, AllPairs}
 use Rattle.std.specs.List.{list_any}
 use Rattle.std.proofs.lemmas.Bool.{or_cases, eqb-true, false≢true}
 use Rattle.std.proofs.lemmas.Bool.Decides.{Decides-eqb}
 use Rattle.std.proofs.lemmas.List.{map_push, length_push, get_or_default}
 use Rattle.std.proofs.lemmas.List.Quantifiers.{all_pairs_push}
-use Rattle.std.proofs.lemmas.List.Elements.{All-head, All-tail, All-push, All-weaker, All-from_get_or}
+use Rattle.std.proofs.lemmas.List.Elements.{All-head, All-tail, All-push, All-weaker}
 use Rattle.std.proofs.lemmas.Map.Made.{IsDistinct-from_AllPairs}
 use Rattle.std.proofs.lemmas.Map.Steps.{length-le_from_distinct_below}
 use Rattle.gf_core.specs.Bytes.{AreBytes}
 use Rattle.gf_core.specs.Field.{gf_mul}
-use Rattle.gf_core.specs.Rows.{row_sum, scaled_row}
+use Rattle.gf_core.specs.Rows.{row_sum}
 use Rattle.gf_core.specs.Combinations.{IsInSpan}
 use Rattle.gf_core.specs.Triangular.{AreRows, IsZeroAt, AreTriangular}
 use Rattle.gf_core.proofs.ProductLemmas.{gf_mul-zero}

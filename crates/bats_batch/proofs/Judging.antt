@@ -1,5 +1,5 @@
 -- What the reduced row of a packet says of the packet: it is new, it follows from the kept packets, or it contradicts them.
-use Rattle.std.proofs.Common.{ℕ, ◌≡◌, ◌≢◌, ◌<◌, ◌≤◌, ◌+◌, ◌∙◌, List, [], ◌∷◌, ◌++◌, length, get_or, take, map, replicate, sym, ap, subst, arith}
+use Rattle.std.proofs.Common.{ℕ, ◌≡◌, ◌≢◌, ◌<◌, ◌≤◌, ◌+◌, ◌∙◌, List, [], length, get_or, take, map, replicate, sym, ap, subst, arith}
 use Rattle.std.specs.Prelude.{All}
 use Rattle.std.proofs.lemmas.List.{length-map, length-take-le, get_or-take, get_or-map, get_or-replicate, ext_get_or, length-replicate}
 use Rattle.std.proofs.lemmas.List.Elements.{All-map, All-weaker, All-take, All-from_get_or}

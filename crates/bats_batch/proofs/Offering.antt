@@ -1,20 +1,14 @@
 -- An offered packet, from its reduced row to what becomes of it and to the basis after it.
-use Rattle.std.proofs.Common.{ℕ, ◌≡◌, ◌≢◌, ◌<◌, ◌≤◌, ◌+◌, ◌∙◌, List, [], ◌∷◌, ◌++◌, length, get_or, map, sym, ap, subst, refl, arith}
-use Rattle.std.specs.Prelude.{All, AllPairs}
-use Rattle.std.proofs.lemmas.Bool.Decides.{Decides-eqb}
-use Rattle.std.proofs.lemmas.List.{length-map, length-append, length_push, map_push, get_or_default}
-use Rattle.std.proofs.lemmas.List.Elements.{All-push}
-use Rattle.std.proofs.lemmas.List.Quantifiers.{all_pairs_push}
-use Rattle.std.proofs.lemmas.Map.Made.{IsDistinct-from_AllPairs}
-use Rattle.std.proofs.lemmas.Map.Steps.{length-le_from_distinct_below}
+use Rattle.std.proofs.Common.{ℕ, ◌≡◌, ◌<◌, ◌≤◌, ◌+◌, ◌∙◌, List, [], ◌∷◌, ◌++◌, length, map, sym, ap, subst, arith}
+use Rattle.std.specs.Prelude.{All}
+use Rattle.std.proofs.lemmas.List.{length-map, map_push}
 use Rattle.gf_core.specs.Bytes.{AreBytes}
-use Rattle.gf_core.specs.Triangular.{AreRows, IsZeroAt, AreTriangular}
 use Rattle.bats_model.specs.declared.packet.Packet.{Packet}
 use Rattle.bats_model.specs.Kept.{IsCombination, Follows, Contradicts, packet_row}
 use Rattle.bats_batch.specs.declared.entry.Entry.{Entry}
 use Rattle.bats_batch.specs.Basis.{BasisData}
 use Rattle.bats_batch.specs.steps.IsBasis.{IsSized, IsBasis}
-use Rattle.bats_batch.specs.steps.Reduction.{Reduces, IsLeading, IsNormalized}
+use Rattle.bats_batch.specs.steps.Reduction.{Reduces, IsLeading}
 use Rattle.bats_batch.specs.steps.Entries.{offered_packets, pivots_of, rows_of, Keeps}
 use Rattle.bats_batch.proofs.Judging.{IsTaken-dependent, IsTaken-contradiction, IsTaken-new}
 use Rattle.bats_batch.proofs.Growing.{IsBasis-more, IsBasis-count, IsBasis-room}

@@ -1,9 +1,7 @@
-use Rattle.std.proofs.Common.{◌≡◌, ◌<◌, ◌≤◌, ◌+◌, ◌∙◌, ℕ, List, Option, Some, None, length, sym, ap, subst, arith}
+use Rattle.std.proofs.Common.{◌≡◌, ◌+◌, ℕ, List, Option, Some, None, subst, arith}
 use Rattle.std.specs.Prelude.{All, MatchOption}
-use Rattle.bats_batch.specs.Basis.{BasisData}
 use Rattle.bats_batch.specs.steps.Reduction.{IsLeading}
-use Rattle.bats_batch.specs.steps.IsBasis.{IsBasis}
-use Rattle.bats_batch.proofs.Offering.{IsReduced, counted, offered-dependent, offered-contradiction, offered-new, offered-room, offered-entries, offered-kept}
+use Rattle.bats_batch.proofs.Offering.{IsReduced, counted, offered-dependent, offered-contradiction, offered-new}
 use Rattle.bats_batch.proofs.basis.Basis.judge.Goals as goal
 
 left : (p q : Option ℕ) (row : List ℕ) → p ≡ q → MatchOption p (All (λ byte. byte ≡ 0) row) (IsLeading row) → MatchOption q (All (λ byte. byte ≡ 0) row) (IsLeading row)
