@@ -9,9 +9,8 @@ use Rattle.bats_model.specs.declared.item.Item.{Item}
 use Rattle.bats_model.specs.declared.item.Item.TheVariants as items
 use Rattle.bats_model.specs.declared.read_end.ReadEnd.{ReadEnd}
 use Rattle.bats_model.specs.declared.read_end.ReadEnd.TheVariants as ends
-use Rattle.bats_format.specs.Reader.{ReaderData, StandsFor, IsOpen, GivesItem, RefusesInput, Refuses, IsKept, BeginsAtNothing}
-use Rattle.bats_format.specs.declared.buffers.Buffers.{Buffers}
-use Rattle.bats_format.specs.Taking.{FitsSpare, IsSpareOf, TakesHeader, StopsFirst, FirstStops, IsStop, StopsAt, RecordStops, TakesNext}
+use Rattle.bats_format.specs.Reader.{ReaderData, StandsFor, IsOpen, GivesItem, RefusesInput, Refuses, BeginsAtNothing}
+use Rattle.bats_format.specs.Taking.{TakesHeader, StopsFirst, FirstStops, IsStop, StopsAt, StopCause, Stops, TakesNext}
 use Rattle.bats_format.proofs.RecordLemmas.{length-header_record}
 use Rattle.bats_format.proofs.PacketFiles.{IsPacketFile-more, IsPacketFile-header}
 use Rattle.bats_format.proofs.Refusals.{longest_front}
@@ -64,12 +63,6 @@ pub BeginsAtNothing-some : (session : Option SessionData) (some : SessionData) (
     → BeginsAtNothing session records offset
 BeginsAtNothing-some session some records offset e =
     subst (λ (s : Option SessionData). BeginsAtNothing s records offset) (sym e) tt
-
--- spare buffers
-pub IsSpareOf-fits : (session : Option SessionData) (some : SessionData) (spare : Option Buffers) → session ≡ Some some
-    → FitsSpare some.m some.t spare → IsSpareOf session spare
-IsSpareOf-fits session some None e h = tt
-IsSpareOf-fits session some (Some buffers) e h = subst (λ (s : Option SessionData). IsSpareOf s (Some buffers)) (sym e) h
 
 -- ---- the first header
 
@@ -207,40 +200,46 @@ refuses_input before after session records offset end s = record {
   no_fault = s.no_fault;
 }
 
-refuses_record : (before after : InputState) (session : SessionData) (records offset : ℕ) (end : ReadEnd) → (end ≡ ends.Memory → ⊥)
-    → RecordStops before after session records offset end
+refuses_record : (before after : InputState) (session : SessionData) (records offset : ℕ) (end : ReadEnd)
+    → StopCause before after session records offset [] end
     → Refuses before after (going (Some session) records offset) (record (going (Some session) records offset) { refused = Some end }) end
-refuses_record before after session records offset ends.Memory other s = absurd (other refl)
-refuses_record before after session records offset ends.ReadFault other s =
+refuses_record before after session records offset ends.Memory s =
+    inr (record {
+      was_open = open_going (Some session) records offset;
+      refused = refl;
+      read = s.read;
+      no_fault = s.no_fault;
+    })
+refuses_record before after session records offset ends.ReadFault s =
     inr (record {
       was_open = open_going (Some session) records offset;
       refused = refl;
       fault = s.fault;
       read = s.read;
     })
-refuses_record before after session records offset ends.NoHeader other s = inr (refuses_input before after session records offset _ s)
-refuses_record before after session records offset (ends.BadHeader field) other s = inr (refuses_input before after session records offset _ s)
-refuses_record before after session records offset (ends.BadTag at byte) other s = inr (refuses_input before after session records offset _ s)
-refuses_record before after session records offset (ends.OtherSession at) other s = inr (refuses_input before after session records offset _ s)
-refuses_record before after session records offset (ends.Truncated at) other s = inr (refuses_input before after session records offset _ s)
-refuses_record before after session records offset ends.TooManyRecords other s = inr (refuses_input before after session records offset _ s)
+refuses_record before after session records offset ends.NoHeader s = inr (refuses_input before after session records offset _ s)
+refuses_record before after session records offset (ends.BadHeader field) s = inr (refuses_input before after session records offset _ s)
+refuses_record before after session records offset (ends.BadTag at byte) s = inr (refuses_input before after session records offset _ s)
+refuses_record before after session records offset (ends.OtherSession at) s = inr (refuses_input before after session records offset _ s)
+refuses_record before after session records offset (ends.Truncated at) s = inr (refuses_input before after session records offset _ s)
+refuses_record before after session records offset ends.TooManyRecords s = inr (refuses_input before after session records offset _ s)
 
 pub Refuses-record : (before after : InputState) (session : SessionData) (records offset : ℕ) (reader reader' : ReaderData) (end : ReadEnd)
     → reader ≡ going (Some session) records offset → reader' ≡ record (going (Some session) records offset) { refused = Some end }
-    → (end ≡ ends.Memory → ⊥) → RecordStops before after session records offset end → Refuses before after reader reader' end
-Refuses-record before after session records offset reader reader' end e e' other s =
+    → Stops before after session records offset [] end → Refuses before after reader reader' end
+Refuses-record before after session records offset reader reader' end e e' s =
     subst (λ (r : ReaderData). Refuses before after r reader' end) (sym e)
     (subst (λ (r : ReaderData). Refuses before after (going (Some session) records offset) r end) (sym e')
-    (refuses_record before after session records offset end other s))
+    (refuses_record before after session records offset end s.cause))
 
 -- a refusal that was answered before
-pub Refuses-again : (input : InputState) (reader : ReaderData) (end : ReadEnd) → reader.refused ≡ Some end → IsKept (Some end)
+pub Refuses-again : (input : InputState) (reader : ReaderData) (end : ReadEnd) → reader.refused ≡ Some end
     → Refuses input input reader reader end
-Refuses-again input reader ends.Memory e h = absurd h
-Refuses-again input reader ends.ReadFault e h = inl (record { refused = e; same = refl; nothing_read = refl })
-Refuses-again input reader ends.NoHeader e h = inl (record { refused = e; same = refl; nothing_read = refl })
-Refuses-again input reader (ends.BadHeader field) e h = inl (record { refused = e; same = refl; nothing_read = refl })
-Refuses-again input reader (ends.BadTag at byte) e h = inl (record { refused = e; same = refl; nothing_read = refl })
-Refuses-again input reader (ends.OtherSession at) e h = inl (record { refused = e; same = refl; nothing_read = refl })
-Refuses-again input reader (ends.Truncated at) e h = inl (record { refused = e; same = refl; nothing_read = refl })
-Refuses-again input reader ends.TooManyRecords e h = inl (record { refused = e; same = refl; nothing_read = refl })
+Refuses-again input reader ends.Memory e = inl (record { refused = e; same = refl; nothing_read = refl })
+Refuses-again input reader ends.ReadFault e = inl (record { refused = e; same = refl; nothing_read = refl })
+Refuses-again input reader ends.NoHeader e = inl (record { refused = e; same = refl; nothing_read = refl })
+Refuses-again input reader (ends.BadHeader field) e = inl (record { refused = e; same = refl; nothing_read = refl })
+Refuses-again input reader (ends.BadTag at byte) e = inl (record { refused = e; same = refl; nothing_read = refl })
+Refuses-again input reader (ends.OtherSession at) e = inl (record { refused = e; same = refl; nothing_read = refl })
+Refuses-again input reader (ends.Truncated at) e = inl (record { refused = e; same = refl; nothing_read = refl })
+Refuses-again input reader ends.TooManyRecords e = inl (record { refused = e; same = refl; nothing_read = refl })

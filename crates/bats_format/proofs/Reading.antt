@@ -11,7 +11,7 @@ use Rattle.std.proofs.lemmas.Result.{err_from_is_err_and}
 use Rattle.std.specs.Result.{IsErrAnd}
 use Rattle.bats_io.specs.Faults.{Rose}
 use Rattle.bats_io.specs.Streams.{InputState, IsRead}
-use Rattle.bats_io.proofs.ReadLemmas.{IsRead-after, IsTold-after}
+use Rattle.bats_io.proofs.ReadLemmas.{IsRead-nothing, IsRead-after, IsTold-after}
 use Rattle.bats_model.specs.Bytes.{AreBytes}
 use Rattle.bats_model.specs.Session.{SessionData, IsSession}
 use Rattle.bats_model.specs.Records.{header_record, packet_record, header_tag, packet_tag}
@@ -24,7 +24,7 @@ use Rattle.bats_model.specs.declared.read_end.HeaderField.{HeaderField}
 use Rattle.bats_model.specs.declared.read_end.ReadEnd.{ReadEnd}
 use Rattle.bats_model.specs.declared.read_end.ReadEnd.TheVariants as ends
 use Rattle.bats_format.specs.Filling.{IsFilled, FailsWithin, IsPart, PartIsFilled, FillsPart}
-use Rattle.bats_format.specs.Taking.{HasNoRecord, room_of, size_read, StopsFirst, FirstStops, TakesFirst, ReadsWithin, FailsAt, IsStop, StopsAt, StopCause, Stops, TakesByte, TakesItem, TakesBody, RecordStops}
+use Rattle.bats_format.specs.Taking.{HasNoRecord, room_of, size_read, StopsFirst, FirstStops, TakesFirst, ReadsWithin, FailsAt, IsStop, StopsAt, StopCause, Stops, TakesByte, TakesItem, TakesBody, LacksMemoryAt}
 use Rattle.bats_format.proofs.RecordLemmas.{same_parts, length-header_record, header_rest, header_record-begins, length-packet_record, packet_rest, packet_record-begins}
 use Rattle.bats_format.proofs.PacketFiles.{IsPacketFile-header}
 use Rattle.bats_format.proofs.Refusals.{front_begins}
@@ -226,6 +226,13 @@ fails_after before between after session records offset bytes p f = record {
   read = reads_after before between after session records offset bytes p f.read;
 }
 
+lacks_memory_after : (before between after : InputState) (session : SessionData) (records offset : ℕ) (bytes : List ℕ) → IsPart before between bytes
+    → LacksMemoryAt between after session records offset bytes → LacksMemoryAt before after session records offset []
+lacks_memory_after before between after session records offset bytes p s = record {
+  no_fault = s.no_fault ∙ p.no_fault;
+  read = reads_after before between after (Some session) records offset bytes p s.read;
+}
+
 stops_after : (before between after : InputState) (session : SessionData) (records offset : ℕ) (bytes : List ℕ) (end : ReadEnd)
     → IsPart before between bytes → StopsAt between after session records offset bytes end → StopsAt before after session records offset [] end
 unfolding reads_after
@@ -240,7 +247,7 @@ stops_after before between after session records offset bytes end p s = record {
 
 stop_after : (before between after : InputState) (session : SessionData) (records offset : ℕ) (bytes : List ℕ) (end : ReadEnd)
     → IsPart before between bytes → StopCause between after session records offset bytes end → StopCause before after session records offset [] end
-stop_after before between after session records offset bytes ends.Memory p s = s
+stop_after before between after session records offset bytes ends.Memory p s = lacks_memory_after before between after session records offset bytes p s
 stop_after before between after session records offset bytes ends.ReadFault p s = fails_after before between after (Some session) records offset bytes p s
 stop_after before between after session records offset bytes ends.NoHeader p s = stops_after before between after session records offset bytes _ p s
 stop_after before between after session records offset bytes (ends.BadHeader field) p s = stops_after before between after session records offset bytes _ p s
@@ -249,26 +256,12 @@ stop_after before between after session records offset bytes (ends.OtherSession 
 stop_after before between after session records offset bytes (ends.Truncated at) p s = stops_after before between after session records offset bytes _ p s
 stop_after before between after session records offset bytes ends.TooManyRecords p s = stops_after before between after session records offset bytes _ p s
 
-record_stops : (before after : InputState) (session : SessionData) (records offset : ℕ) (end : ReadEnd)
-    → StopCause before after session records offset [] end → RecordStops before after session records offset end
-record_stops before after session records offset ends.Memory s = absurd s
-record_stops before after session records offset ends.ReadFault s = s
-record_stops before after session records offset ends.NoHeader s = s
-record_stops before after session records offset (ends.BadHeader field) s = s
-record_stops before after session records offset (ends.BadTag at byte) s = s
-record_stops before after session records offset (ends.OtherSession at) s = s
-record_stops before after session records offset (ends.Truncated at) s = s
-record_stops before after session records offset ends.TooManyRecords s = s
-
-pub RecordStops-of : {before after : InputState} {session : SessionData} {records offset : ℕ} {end : ReadEnd}
-    → Stops before after session records offset [] end → RecordStops before after session records offset end
-RecordStops-of {before} {after} {session} {records} {offset} {end} s = record_stops before after session records offset end s.cause
-
-pub RecordStops-after : {before between after : InputState} {session : SessionData} {records offset byte : ℕ} {end : ReadEnd}
-    → TakesByte before between records byte → Stops between after session records offset (byte ∷ []) end → RecordStops before after session records offset end
-RecordStops-after {before} {between} {after} {session} {records} {offset} {byte} {end} p s =
-    record_stops before after session records offset end
-    (stop_after before between after session records offset (byte ∷ []) end (record { read = p.taken; no_fault = p.no_fault }) s.cause)
+-- a stop after the first byte
+pub Stops-after : {before between after : InputState} {session : SessionData} {records offset byte : ℕ} {end : ReadEnd}
+    → TakesByte before between records byte → Stops between after session records offset (byte ∷ []) end → Stops before after session records offset [] end
+Stops-after {before} {between} {after} {session} {records} {offset} {byte} {end} p s = record {
+  cause = stop_after before between after session records offset (byte ∷ []) end (record { read = p.taken; no_fault = p.no_fault }) s.cause;
+}
 
 -- ---- the first byte
 
@@ -746,6 +739,23 @@ TakesBody-packet_exit {before} {after} {offset} {end} session number coefs paylo
     (λ bytes short. IsStop-packet_cut session records offset bytes more
     (omega (arith, length-append (number ++ coefs) payload, length-append number coefs)))
     p.as_far)
+
+-- the exit where no memory was found for a packet
+pub TakesBody-packet_memory : (input : InputState) (offset : ℕ) (session : SessionData) (result : Result Item ReadEnd) → IsErrAnd result (λ y. y ≡ ends.Memory)
+    → TakesBody input input session offset packet_tag result
+TakesBody-packet_memory input offset session result h =
+    body_exit input input session offset packet_tag ends.Memory result h
+    (λ records more. record {
+      cause = record {
+        no_fault = refl;
+        read = record {
+          bytes = [];
+          read = IsRead-nothing input.left;
+          within = within-one (Some session) records (packet_tag ∷ []) (omega arith);
+          none = λ item rest place e. no_short session item (packet_tag ∷ []) rest (omega arith) e;
+        };
+      };
+    })
 
 -- what a list is after a write through its whole part
 pub written : (size : ℕ) (old new : List ℕ) → size ≡ length old → length new ≡ length old → take size (new ++ drop (length new) old) ≡ new

@@ -24,12 +24,6 @@ abbrev pub BeginsAtNothing : Option SessionData → ℕ → ℕ → Type 0
 BeginsAtNothing None records offset = (records ≡ 0) × (offset ≡ 0)
 BeginsAtNothing (Some session) records offset = Unit {0}
 
--- want of memory isn't answered again
-abbrev pub IsKept : Option ReadEnd → Type 0
-IsKept None = Unit {0}
-IsKept (Some ends.Memory) = ⊥
-IsKept (Some end) = Unit {0}
-
 -- the reader has read these bytes, which are nothing, or a packet file of its session and these items
 abbrev pub HasReadAs : Option SessionData → List ℕ → List Item → ReaderData → Type 0
 HasReadAs None bytes list reader = (bytes ≡ []) × (list ≡ [])
@@ -99,15 +93,17 @@ pub record CannotRead (before after : InputState) (reader reader' : ReaderData) 
   pub fault : Rose before.faults after.faults
   pub read : ReadsWithin reader.session reader.records reader.offset before.left after.left []
 
--- memory ran out, before anything was read
+-- memory ran out, before a whole record was read
 pub record LacksMemory (before after : InputState) (reader reader' : ReaderData) : Type 0 where
   pub was_open : IsOpen reader
-  pub same : reader' ≡ reader
-  pub nothing_read : after ≡ before
+  pub refused : reader' ≡ record reader { refused = Some ends.Memory }
+  pub read : ReadsWithin reader.session reader.records reader.offset before.left after.left []
+  pub no_fault : after.faults ≡ before.faults
 
 -- a refusal
 abbrev pub Refuses : InputState → InputState → ReaderData → ReaderData → ReadEnd → Type 0
-Refuses before after reader reader' ends.Memory = LacksMemory before after reader reader'
+Refuses before after reader reader' ends.Memory =
+    RefusesAgain before after reader reader' ends.Memory ⊎ LacksMemory before after reader reader'
 Refuses before after reader reader' ends.ReadFault =
     RefusesAgain before after reader reader' ends.ReadFault ⊎ CannotRead before after reader reader'
 Refuses before after reader reader' end =

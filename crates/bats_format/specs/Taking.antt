@@ -9,29 +9,12 @@ use Rattle.bats_model.specs.Refusal.{RefusesHeader, header_size, first_refusal}
 use Rattle.bats_model.specs.declared.item.Item.{Item}
 use Rattle.bats_model.specs.declared.read_end.ReadEnd.{ReadEnd}
 use Rattle.bats_model.specs.declared.read_end.ReadEnd.TheVariants as ends
-use Rattle.bats_format.specs.declared.buffers.Buffers.{Buffers}
 use Rattle.bats_format.specs.declared.records.Tag.{Tag}
 use Rattle.bats_format.specs.declared.records.Tag.TheVariants as tags
 
 -- bytes of a record at most: a packet's with 32 coefficients and 2,048 bytes of payload
 abbrev pub most_of_record : ℕ
 most_of_record = 2085
-
--- buffers for a packet of m coefficients and t bytes of payload
-pub record FitsPacket (m t : ℕ) (buffers : Buffers) : Type 0 where
-  pub coefs : length buffers.coefs.items ≡ m
-  pub payload : length buffers.payload.items ≡ t
-
--- buffers that are left over, if there are some, are for such a packet
-abbrev pub FitsSpare : ℕ → ℕ → Option Buffers → Type 0
-FitsSpare m t None = Unit {0}
-FitsSpare m t (Some buffers) = FitsPacket m t buffers
-
--- and so in a reader, which has none before it has a session
-abbrev pub IsSpareOf : Option SessionData → Option Buffers → Type 0
-IsSpareOf session None = Unit {0}
-IsSpareOf None (Some buffers) = ⊥
-IsSpareOf (Some session) (Some buffers) = FitsPacket session.m session.t buffers
 
 -- no whole record stands at the front of these bytes, which are those at the offset: none of the session, or, where no
 -- session is known yet, no header of any
@@ -116,8 +99,13 @@ pub record StopsAt (before after : InputState) (session : SessionData) (records 
   pub size : length (begun ++ read.bytes) ≡ size_read end (begun ++ left)
   pub no_fault : after.faults ≡ before.faults
 
+-- memory ran out, before a whole record was read
+pub record LacksMemoryAt (before after : InputState) (session : SessionData) (records offset : ℕ) (begun : List ℕ) : Type 0 where
+  pub no_fault : after.faults ≡ before.faults
+  pub read : ReadsWithin (Some session) records offset before.left after.left begun
+
 abbrev pub StopCause : InputState → InputState → SessionData → ℕ → ℕ → List ℕ → ReadEnd → Type 0
-StopCause before after session records offset begun ends.Memory = ⊥
+StopCause before after session records offset begun ends.Memory = LacksMemoryAt before after session records offset begun
 StopCause before after session records offset begun ends.ReadFault = FailsAt before after (Some session) records offset begun
 StopCause before after session records offset begun end = StopsAt before after session records offset begun end
 
@@ -167,11 +155,6 @@ TakesBody before after session offset byte (Ok item) = TakesItem before after se
 TakesBody before after session offset byte (Err end) =
     (records : ℕ) → records ≢ most_records → Stops before after session records offset (byte ∷ []) end
 
--- a record isn't given; want of memory comes before anything is read
-abbrev pub RecordStops : InputState → InputState → SessionData → ℕ → ℕ → ReadEnd → Type 0
-RecordStops before after session records offset ends.Memory = after ≡ before
-RecordStops before after session records offset end = StopCause before after session records offset [] end
-
 -- the item, where more records may come
 pub record TakesNext (before after : InputState) (session : SessionData) (records offset : ℕ) (item : Item) : Type 0 where
   pub item_is : TakesItem before after session offset [] item
@@ -181,4 +164,4 @@ pub record TakesNext (before after : InputState) (session : SessionData) (record
 abbrev pub TakesRecord : InputState → InputState → SessionData → ℕ → ℕ → Result (Option Item) ReadEnd → Type 0
 TakesRecord before after session records offset (Ok (Some item)) = TakesNext before after session records offset item
 TakesRecord before after session records offset (Ok None) = FindsEnd before after
-TakesRecord before after session records offset (Err end) = RecordStops before after session records offset end
+TakesRecord before after session records offset (Err end) = Stops before after session records offset [] end

@@ -2,7 +2,6 @@
 //! its place. The definitions stand in bats_model (`Records`, `PacketFile`, `Refusal`).
 #![tactic(auto)]
 
-mod buffers;
 mod filling;
 mod header;
 mod laws;

@@ -1,6 +1,5 @@
 ghost use Rattle.std.specs.Prelude.{◌≡◌, [], None, Some, false, option_map};
 
-use crate::buffers::Buffers;
 use crate::records::{record_size, take_first, take_record};
 use bats_io::Source;
 use bats_model::{Item, ReadEnd, Session};
@@ -15,15 +14,13 @@ pub struct Reader {
     offset: u64,
     ended: bool,
     refused: Option<ReadEnd>,
-    // Memory for the next packet, where it was taken and a repeat of the header came.
-    spare: Option<Buffers>,
 }
 
 impl Model for Reader {
     ghost use Rattle.std.specs.Prelude.{◌≤◌, ◌*◌};
     ghost use Rattle.bats_model.specs.PacketFile.{most_records};
-    ghost use Rattle.bats_format.specs.Taking.{most_of_record, IsSpareOf};
-    ghost use Rattle.bats_format.specs.Reader.{ReaderData, BeginsAtNothing, IsKept};
+    ghost use Rattle.bats_format.specs.Taking.{most_of_record};
+    ghost use Rattle.bats_format.specs.Reader.{ReaderData, BeginsAtNothing};
 
     ghost Value = { ReaderData };
 
@@ -36,8 +33,7 @@ impl Model for Reader {
     } };
 
     ghost invariant = { λ r. (r.records ≤ most_records) × (r.offset ≤ most_of_record * r.records)
-        × BeginsAtNothing r.session r.records r.offset × IsKept r.refused
-        × IsSpareOf r.session r.spare };
+        × BeginsAtNothing r.session r.records r.offset };
 }
 
 impl Reader {
@@ -60,7 +56,6 @@ impl Reader {
             offset: 0,
             ended: false,
             refused: None,
-            spare: None,
         }
     }
 
@@ -71,9 +66,8 @@ impl Reader {
         self.session.as_ref()
     }
 
-    /// The next record. `Ok(None)` is the end of the input after a whole record. After a refusal but want of memory,
-    /// and after `Ok(None)`, each later call answers the same and reads nothing. Want of memory comes before anything is
-    /// read, and leaves the reader as it was. Memory is taken for a packet, and kept over repeats of the header.
+    /// The next record. `Ok(None)` is the end of the input after a whole record. After a refusal, and after `Ok(None)`,
+    /// each later call answers the same and reads nothing. Memory is taken once a packet's first byte was read.
     pub fn next<S: Source>(
         &mut self,
         alloc: Global,
@@ -112,9 +106,9 @@ impl Reader {
                 self.offset = 32;
                 Ok(Some(Item::Header { at: 0 }))
             }
-            Err(end) => {
-                self.refused = Some(end);
-                Err(end)
+            Err(refusal) => {
+                self.refused = Some(refusal);
+                Err(refusal)
             }
         }
     }
@@ -133,14 +127,7 @@ impl Reader {
             (S.state source.new)
             self.old self.new result }
     {
-        match take_record(
-            alloc,
-            source,
-            session,
-            self.records,
-            self.offset,
-            &mut self.spare,
-        ) {
+        match take_record(alloc, source, session, self.records, self.offset) {
             Ok(Some(item)) => {
                 self.records += 1;
                 self.offset += record_size(session, &item);
@@ -150,13 +137,10 @@ impl Reader {
                 self.ended = true;
                 Ok(None)
             }
-            Err(end) => match end {
-                ReadEnd::Memory => Err(end),
-                _ => {
-                    self.refused = Some(end);
-                    Err(end)
-                }
-            },
+            Err(end) => {
+                self.refused = Some(end);
+                Err(end)
+            }
         }
     }
 }

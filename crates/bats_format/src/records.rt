@@ -4,9 +4,8 @@ ghost use Rattle.bats_model.specs.Bytes.{AreBytes};
 ghost use Rattle.bats_model.specs.Session.{IsSession};
 ghost use Rattle.bats_model.specs.PacketFile.{IsItemAt, record_of, most_records};
 ghost use Rattle.bats_model.specs.Records.{header_tag, packet_tag};
-ghost use Rattle.bats_format.specs.Taking.{most_of_record, FitsPacket, FitsSpare, TakesFirst, TagIs, byte_of, TakesTag, TakesBody, TakesRecord};
+ghost use Rattle.bats_format.specs.Taking.{most_of_record, TakesFirst, TagIs, byte_of, TakesTag, TakesBody, TakesRecord};
 
-use crate::buffers::{Buffers, take_buffers};
 use crate::filling::{fill, fill_part, fill_three};
 use crate::header::{header_bytes, read_header};
 use bats_io::Source;
@@ -93,7 +92,7 @@ fn take_tag<S: Source>(source: &mut S, records: u32, at: u64) -> Result<Option<T
         Ok(0) => Ok(None),
         Ok(_) => match tag_of(bytes[0], records, at) {
             Ok(tag) => Ok(Some(tag)),
-            Err(end) => Err(end),
+            Err(refusal) => Err(refusal),
         },
         Err(_) => Err(ReadEnd::ReadFault),
     }
@@ -101,13 +100,13 @@ fn take_tag<S: Source>(source: &mut S, records: u32, at: u64) -> Result<Option<T
 
 // Reads what follows the first byte of a later header, which is the session's.
 fn take_repeat<S: Source>(source: &mut S, session: &Session, at: u64) -> Result<Item, ReadEnd>
-    requires { IsSession session.now }
     ensures { TakesBody
         (S.state source.old)
         (S.state source.new)
         session.now at header_tag result }
 {
     let header = header_bytes(session);
+    let _m = session.m();
     let mut rest = [0; 31];
     fill_part(source, at, &mut rest)?;
     if rest[..] != header[1..] {
@@ -133,23 +132,21 @@ fn bytes_in(memory: Vec<u8>) -> Bytes
     bytes
 }
 
-// Reads what follows the first byte of a packet record, into these buffers.
+// Reads what follows the first byte of a packet record, for which it takes memory first: M bytes and T bytes.
 fn take_packet<S: Source>(
+    alloc: Global,
     source: &mut S,
     session: &Session,
     at: u64,
-    buffers: Buffers,
 ) -> Result<Item, ReadEnd>
-    requires fit { FitsPacket session.now.m session.now.t buffers }
-    requires session { IsSession session.now }
     ensures { TakesBody
         (S.state source.old)
         (S.state source.new)
         session.now at packet_tag result }
 {
     let mut number = [0; 4];
-    let mut coefs = buffers.coefs;
-    let mut payload = buffers.payload;
+    let mut coefs = vec![in alloc; 0; usize::from(session.m())]?;
+    let mut payload = vec![in alloc; 0; usize::from(session.t())]?;
     fill_three(source, at, &mut number, &mut coefs, &mut payload)?;
     Ok(Item::Packet {
         at,
@@ -161,82 +158,48 @@ fn take_packet<S: Source>(
     })
 }
 
-// Reads what follows the first byte of a record, of a packet into these buffers, which are spare else.
+// Reads what follows the first byte of a record.
 fn take_body<S: Source>(
+    alloc: Global,
     source: &mut S,
     session: &Session,
     at: u64,
     tag: Tag,
-    buffers: Buffers,
-    spare: &mut Option<Buffers>,
 ) -> Result<Item, ReadEnd>
-    requires fit { FitsPacket session.now.m session.now.t buffers }
-    requires spare { FitsSpare session.now.m session.now.t spare.old }
-    requires session { IsSession session.now }
-    ensures body { TakesBody
+    ensures { TakesBody
         (S.state source.old)
         (S.state source.new)
         session.now at (byte_of tag) result }
-    ensures spare { FitsSpare session.now.m session.now.t spare.new }
 {
     match tag {
-        Tag::Header => {
-            *spare = Some(buffers);
-            take_repeat(source, session, at)
-        }
-        Tag::Packet => take_packet(source, session, at, buffers),
+        Tag::Header => take_repeat(source, session, at),
+        Tag::Packet => take_packet(alloc, source, session, at),
     }
 }
 
-// Reads the next record, of a packet into these buffers, which are spare where a header follows.
-fn take_into<S: Source>(
-    source: &mut S,
-    session: &Session,
-    records: u32,
-    at: u64,
-    buffers: Buffers,
-    spare: &mut Option<Buffers>,
-) -> Result<Option<Item>, ReadEnd>
-    requires fit { FitsPacket session.now.m session.now.t buffers }
-    requires spare { FitsSpare session.now.m session.now.t spare.old }
-    requires session { IsSession session.now }
-    requires records { records ≤ most_records }
-    ensures next { TakesRecord
-        (S.state source.old)
-        (S.state source.new)
-        session.now records at result }
-    ensures spare { FitsSpare session.now.m session.now.t spare.new }
-{
-    match take_tag(source, records, at) {
-        Ok(None) => Ok(None),
-        Ok(Some(tag)) => match take_body(source, session, at, tag, buffers, spare) {
-            Ok(item) => Ok(Some(item)),
-            Err(end) => Err(end),
-        },
-        Err(end) => Err(end),
-    }
-}
-
-/// Reads the next record after the first ones, which is `None` at the end of the input. Memory is taken before anything
-/// is read, and only where no spare buffers are left from an earlier call.
+/// Reads the next record after the first ones, which is `None` at the end of the input. Memory is taken once the first
+/// byte of a packet was read.
 pub(crate) fn take_record<S: Source>(
     alloc: Global,
     source: &mut S,
     session: &Session,
     records: u32,
     at: u64,
-    spare: &mut Option<Buffers>,
 ) -> Result<Option<Item>, ReadEnd>
-    requires records { records ≤ most_records }
-    requires spare { FitsSpare session.now.m session.now.t spare.old }
-    ensures next { TakesRecord
+    requires { records ≤ most_records }
+    ensures { TakesRecord
         (S.state source.old)
         (S.state source.new)
         session.now records at result }
-    ensures spare { FitsSpare session.now.m session.now.t spare.new }
 {
-    let buffers = take_buffers(alloc, session.m(), session.t(), spare)?;
-    take_into(source, session, records, at, buffers, spare)
+    match take_tag(source, records, at) {
+        Ok(None) => Ok(None),
+        Ok(Some(tag)) => match take_body(alloc, source, session, at, tag) {
+            Ok(item) => Ok(Some(item)),
+            Err(end) => Err(end),
+        },
+        Err(end) => Err(end),
+    }
 }
 
 /// Bytes of the record of an item.

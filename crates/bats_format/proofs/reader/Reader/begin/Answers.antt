@@ -9,5 +9,5 @@ returns-in-Ok g c =
 
 pub returns-in-Err : goal.returns-in-Err
 returns-in-Err g c =
-    Refuses-first _ _ _ c.args.self.now _ c.in-Err.end c.self.view_is
+    Refuses-first _ _ _ c.args.self.now _ c.in-Err.refusal c.self.view_is
     (going-new _ c.args.self.now c.self.view_is c.requires.open c.requires.session c.self.invariant.2) refl c.in-Err.ensures
