@@ -1,7 +1,6 @@
 ghost use Rattle.std.specs.Prelude.{ℕ, ◌≡◌, ◌≤◌, ◌∷◌, [], length};
 ghost use Rattle.std.specs.Int.{w32, to_be_bytes};
 ghost use Rattle.bats_model.specs.Bytes.{AreBytes};
-ghost use Rattle.bats_model.specs.Session.{IsSession};
 ghost use Rattle.bats_model.specs.PacketFile.{IsItemAt, record_of, most_records};
 ghost use Rattle.bats_model.specs.Records.{header_tag, packet_tag};
 ghost use Rattle.bats_format.specs.Taking.{most_of_record, TakesFirst, TagIs, byte_of, TakesTag, TakesBody, TakesRecord};
@@ -106,6 +105,7 @@ fn take_repeat<S: Source>(source: &mut S, session: &Session, at: u64) -> Result<
         session.now at header_tag result }
 {
     let header = header_bytes(session);
+    // A getter tells the proof that the session is within its limits.
     let _m = session.m();
     let mut rest = [0; 31];
     fill_part(source, at, &mut rest)?;
