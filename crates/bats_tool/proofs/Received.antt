@@ -24,7 +24,7 @@ use Rattle.bats_decode.specs.Decoder as decoder_specs
 use Rattle.bats_decode.specs.Decoder.{DecoderData}
 use Rattle.bats_format.specs.Taking.{ReadsWithin, room_of}
 use Rattle.bats_tool.specs.Commands.{ReadsRecords}
-use Rattle.bats_tool.proofs.RecordsRead.{ReadsRecords-begun, record_of-within, ReadsWithin-nothing, ReadsWithin-same, unread}
+use Rattle.bats_tool.proofs.RecordsRead.{ReadsRecords-begun, record_of-within, ReadsWithin-nothing, ReadsWithin-same}
 use Rattle.bats_tool.proofs.ReaderAnswers.{not_again, file_of, still_ended}
 use Rattle.bats_tool.specs.Sink.{ArePlain}
 use Rattle.bats_tool.specs.Receiving.{HasReceived, Halts, TakesIn, TakesItem, IsNotPlain, IsRefusedAfter, MeetsNotPlain, ReceivesNext, Receives, ReceivesHeader, IsFresh, HasReceivedAll}
@@ -228,10 +228,8 @@ refused_input start x y r r' d end h q = record {
 
 pub Halts-refused : (start x y : InputState) (r r' : ReaderData) (d : DecoderData) (end : ReadEnd) → HasReceived start x r d
     → Refuses x y r r' end → Halts start y (halts.Input end)
-Halts-refused start x y r r' d ends.Memory h q = (
-  ap (λ (s : InputState). s.faults) q.nothing_read ∙ h.no_fault,
-  reads_begun start x y r d h (unread r.session r.records r.offset x y q.nothing_read),
-)
+Halts-refused start x y r r' d ends.Memory h (inl q) = absurd (not_again h.is_open q)
+Halts-refused start x y r r' d ends.Memory h (inr q) = (q.no_fault ∙ h.no_fault, reads_begun start x y r d h q.read)
 Halts-refused start x y r r' d ends.ReadFault h (inl q) = absurd (not_again h.is_open q)
 Halts-refused start x y r r' d ends.ReadFault h (inr q) =
     (subst (λ (f : ℕ). Rose f y.faults) h.no_fault q.fault, reads_begun start x y r d h q.read)
@@ -319,8 +317,8 @@ refused_first x y r r' end e q = record {
 
 pub ReceivesHeader-refused : (x y : InputState) (r r' : ReaderData) (end : ReadEnd) → IsFresh r → Refuses x y r r' end
     → ReceivesHeader x y r' (Err (halts.Input end))
-ReceivesHeader-refused x y r r' ends.Memory e q =
-    (ap (λ (s : InputState). s.faults) q.nothing_read, reads_first x y r e (unread r.session r.records r.offset x y q.nothing_read))
+ReceivesHeader-refused x y r r' ends.Memory e (inl q) = absurd (not_again (fresh_open r e) q)
+ReceivesHeader-refused x y r r' ends.Memory e (inr q) = (q.no_fault, reads_first x y r e q.read)
 ReceivesHeader-refused x y r r' ends.ReadFault e (inl q) = absurd (not_again (fresh_open r e) q)
 ReceivesHeader-refused x y r r' ends.ReadFault e (inr q) = (q.fault, reads_first x y r e q.read)
 ReceivesHeader-refused x y r r' ends.NoHeader e (inl q) = absurd (not_again (fresh_open r e) q)

@@ -8,7 +8,7 @@ use Rattle.bats_io.specs.Sink.{appended}
 use Rattle.bats_io.specs.Streams.{InputState, OutputState}
 use Rattle.bats_io.proofs.Appended.{appended-nil}
 use Rattle.bats_io.proofs.ReadLemmas.{IsRead-nothing, IsRead-after, IsTold-after, IsTold-read, told_or, IsTold-told_or}
-use Rattle.bats_format.specs.Reader.{ReaderData, StandsFor, HasReadAs, IsOpen, GivesItem, GivesEnd, Refuses, RefusesInput, RefusesAfter, CannotRead}
+use Rattle.bats_format.specs.Reader.{ReaderData, StandsFor, HasReadAs, IsOpen, GivesItem, GivesEnd, Refuses, RefusesInput, RefusesAfter, CannotRead, LacksMemory}
 use Rattle.bats_model.specs.Session.{SessionData}
 use Rattle.bats_model.specs.PacketFile.{packets_of, record_of}
 use Rattle.bats_model.specs.declared.item.Item.{Item}
@@ -32,7 +32,7 @@ use Rattle.bats_tool.proofs.Parts.{WritesPart-whole, WritesPart-same}
 use Rattle.bats_tool.proofs.Writing.{Writes-after, Writes-same}
 use Rattle.bats_format.specs.Taking.{ReadsWithin}
 use Rattle.bats_tool.specs.Commands.{ReadsRecords}
-use Rattle.bats_tool.proofs.RecordsRead.{ReadsRecords-begun, ReadsWithin-nothing, unread}
+use Rattle.bats_tool.proofs.RecordsRead.{ReadsRecords-begun, ReadsWithin-nothing}
 use Rattle.bats_tool.proofs.ReaderAnswers.{not_again, file_of, still_ended}
 use Rattle.bats_tool.proofs.ShowLines.{count-append, item_lines-more, lines_of, lines_all, Attempts-line_cut}
 
@@ -246,6 +246,11 @@ faulted : (y z : InputState) (reader reader' : ReaderData) → IsOpen reader →
 faulted y z reader reader' o (inl r) = absurd (not_again o r)
 faulted y z reader reader' o (inr r) = r
 
+-- memory that ran out
+lacking : (y z : InputState) (reader reader' : ReaderData) → IsOpen reader → Refuses y z reader reader' ends.Memory → LacksMemory y z reader reader'
+lacking y z reader reader' o (inl r) = absurd (not_again o r)
+lacking y z reader reader' o (inr r) = r
+
 -- ---- from the steps to the whole
 
 of_stop : (x z : Ends) (stop other : Stop) → stop ≡ other → Attempts (Some commands.Show) x z (Err other) → Attempts (Some commands.Show) x z (Err stop)
@@ -257,7 +262,8 @@ pub Attempts-refused : (x y z : Ends) (reader reader' : ReaderData) (h p : ℕ) 
     → Attempts (Some commands.Show) x z (Err stop)
 Attempts-refused x y z reader reader' h p ends.Memory stop s r same e =
     of_stop x z stop stops.Memory e
-    (Attempts-memory x y z reader h p s (unread reader.session reader.records reader.offset y.input z.input r.nothing_read) (ap (λ (i : InputState). i.faults) r.nothing_read) same)
+    (let q : LacksMemory y.input z.input reader reader' = lacking y.input z.input reader reader' s.is_open r in
+    Attempts-memory x y z reader h p s q.read q.no_fault same)
 Attempts-refused x y z reader reader' h p ends.ReadFault stop s r same e =
     of_stop x z stop stops.ReadFault e (let q : CannotRead y.input z.input reader reader' = faulted y.input z.input reader reader' s.is_open r in
     Attempts-read_fault x y z reader h p s q.read q.fault same)
