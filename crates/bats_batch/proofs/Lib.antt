@@ -3,3 +3,4 @@ pub mod KeptRows
 pub mod Judging
 pub mod Growing
 pub mod Offering
+pub mod KeptAfter

@@ -6,3 +6,6 @@ mod entry;
 mod reduction;
 
 pub use basis::Basis;
+
+#[cfg(test)]
+mod tests;
