@@ -2,7 +2,7 @@ use Rattle.std.proofs.Common.{◌≡◌, ◌+◌, ◌∙◌, ap, sym, subst, len
 use Rattle.std.proofs.lemmas.List.FromFn.{fill_by_all}
 use Rattle.gf_core.specs.Field.{gf_sum}
 use Rattle.bats_model.specs.Coded.{coded_byte, coded_payload}
-use Rattle.bats_model.specs.Values.{coded_term}
+use Rattle.bats_model.specs.Values.{coded_value, coded_term}
 use Rattle.bats_model.specs.Symbol.{symbol_byte}
 use Rattle.bats_encoder.specs.Terms.{HasTerms}
 use Rattle.bats_encoder.proofs.TermLemmas.{HasTerms-none, HasTerms-more}
@@ -20,7 +20,7 @@ loop-k-preserved c =
     long c.multiple_of-term.ensures.factor c.multiple_of-term.ensures.bytes c.loop-k.invariant)
 
 pub returns : goal.returns
-unfolding coded_payload coded_byte
+unfolding coded_payload coded_value
 returns c =
     let all : c.loop-k.k ≡ length c.args.batch.now.contributors = omega arith in
     let long : length c.loop-k.payload ≡ c.args.session.now.t = omega arith in
