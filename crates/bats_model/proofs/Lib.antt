@@ -2,6 +2,9 @@ pub mod SystematicBatches
 pub mod EachBatch
 pub mod SymbolValues
 pub mod NewPackets
+pub mod KeptSpans
+pub mod PacketRows
+pub mod KeptAgreement
 pub mod RightAnswers
 pub mod Files
 pub mod EachList
