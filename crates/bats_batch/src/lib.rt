@@ -3,6 +3,11 @@
 
 mod basis;
 mod entry;
+mod held;
+#[cfg(test)]
+mod held_tests;
 mod reduction;
+mod slot;
 
 pub use basis::Basis;
+pub use held::{Held, HeldEnd, MAX_KEPT};
