@@ -3,7 +3,6 @@ pub mod KeptRows
 pub mod Judging
 pub mod Growing
 pub mod Offering
-pub mod KeptWith
 pub mod KeptAfter
 pub mod HeldBatches
 pub mod RowCounts
