@@ -1,6 +1,6 @@
 -- A payload with the terms of one more contributor.
-use Rattle.std.proofs.Common.{◌≡◌, ◌+◌, ◌<◌, ℕ, List, ◌∙◌, ap, sym, get_or, length, add-one, arith, refl}
-use Rattle.gf_core.specs.Field.{gf_add, gf_mul, gf_sum}
+use Rattle.std.proofs.Common.{◌≡◌, ◌+◌, ◌<◌, ℕ, List, ◌∙◌, sym, get_or, length, arith}
+use Rattle.gf_core.specs.Field.{gf_add, gf_mul}
 use Rattle.gf_core.specs.Rows.{add_scaled_row}
 use Rattle.gf_core.proofs.RowLemmas.{get_or-add_scaled_row}
 use Rattle.gf_core.proofs.SumLemmas.{gf_sum-zero, gf_sum-more}

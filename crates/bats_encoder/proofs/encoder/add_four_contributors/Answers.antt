@@ -1,4 +1,4 @@
-use Rattle.std.proofs.Common.{◌≡◌, ◌+◌, ◌∙◌, ap, sym, subst, length, arith}
+use Rattle.std.proofs.Common.{◌≡◌, ◌+◌, ◌∙◌, sym, subst, length, arith}
 use Rattle.gf_core.specs.Rows.{add_scaled_row}
 use Rattle.gf_core.proofs.RowLemmas.{length-add_scaled_row}
 use Rattle.bats_encoder.specs.Terms.{HasTerms}
