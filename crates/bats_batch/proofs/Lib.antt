@@ -3,3 +3,8 @@ pub mod KeptRows
 pub mod Judging
 pub mod Growing
 pub mod Offering
+pub mod KeptAfter
+pub mod HeldBatches
+pub mod RowCounts
+pub mod Places
+pub mod Offers

@@ -1,3 +1,4 @@
 pub mod Reduction
 pub mod Entries
 pub mod IsBasis
+pub mod Slots

@@ -1,8 +1,17 @@
-//! The packets of a batch that are kept: those whose coefficient vectors are no combinations of the kept ones before.
+//! The packets of a batch that are kept, those whose coefficient vectors are no combinations of the kept ones before,
+//! and the kept packets of all batches.
 #![tactic(auto)]
 
 mod basis;
 mod entry;
+mod held;
 mod reduction;
+mod slot;
 
 pub use basis::Basis;
+pub use held::{Held, HeldEnd, MAX_KEPT};
+
+#[cfg(test)]
+mod held_tests;
+#[cfg(test)]
+mod tests;

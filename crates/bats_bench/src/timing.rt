@@ -1,4 +1,4 @@
-ghost use Rattle.std.specs.Prelude.{◌≡◌, IfOk, length};
+ghost use Rattle.std.specs.Prelude.{◌≡◌, ◌≢◌, ◌*◌, ◌≤◌, IfOk, length};
 
 use gf_core::Gf;
 use gf_rows::{Multiple, add_four, add_scaled, scale_row};
@@ -41,40 +41,67 @@ fn copy_row(dst: &mut [u8], src: &[u8])
     dst.copy_from_slice(src);
 }
 
-// Adds four multiples of one row.
-fn add_row_four_times(dst: &mut [u8], src: &[u8])
-    requires { length dst.old ≡ length src.now }
+// Adds multiples of a row and of three others, which stand one after another.
+fn add_four_rows(dst: &mut [u8], factor: u8, src: &[u8], others: &[u8])
+    requires src { length dst.old ≡ length src.now }
+    requires others { 3 * length dst.old ≡ length others.now }
 {
-    let multiple = Multiple {
-        factor: Gf::new(0xB7),
+    let size = dst.len();
+    let a = Multiple {
+        factor: Gf::new(factor),
         row: src,
     };
-    add_four(dst, &multiple, &multiple, &multiple, &multiple);
+    let b = Multiple {
+        factor: Gf::new(factor / 2),
+        row: &others[..size],
+    };
+    let c = Multiple {
+        factor: Gf::new(factor / 3),
+        row: &others[size..2 * size],
+    };
+    let d = Multiple {
+        factor: Gf::new(factor / 4),
+        row: &others[2 * size..],
+    };
+    add_four(dst, &a, &b, &c, &d);
 }
 
-fn run(kernel: Kernel, dst: &mut [u8], src: &[u8])
-    requires { length dst.old ≡ length src.now }
+fn run(kernel: Kernel, dst: &mut [u8], factor: u8, src: &[u8], others: &[u8])
+    requires factor { factor ≢ 0 }
+    requires src { length dst.old ≡ length src.now }
+    requires others { 3 * length dst.old ≡ length others.now }
 {
     match kernel {
         Kernel::Copy => copy_row(dst, src),
         Kernel::AddOne => add_scaled(dst, Gf::ONE, src),
-        Kernel::AddScaled => add_scaled(dst, Gf::new(0xB7), src),
-        Kernel::ScaleRow => scale_row(dst, Gf::new(0xB7)),
-        Kernel::AddFour => add_row_four_times(dst, src),
+        Kernel::AddScaled => add_scaled(dst, Gf::new(factor), src),
+        Kernel::ScaleRow => scale_row(dst, Gf::new(factor)),
+        Kernel::AddFour => add_four_rows(dst, factor, src, others),
     }
 }
 
-// Runs the kernel on each whole row of the buffers, several times.
+// Runs the kernel on each whole row of the buffers, several times, with another factor each time, so that no table is
+// made ahead of the run. The buffers hold four rows at least.
 fn go_over(kernel: Kernel, dst: &mut [u8], src: &[u8], size: usize, rows: usize)
-    requires { length dst.old ≡ length src.now }
+    requires same { length dst.old ≡ length src.now }
+    requires four { 4 * size ≤ length src.now }
 {
+    let others = &src[size..4 * size];
     let mut at = 0;
+    let mut factor = 2;
     for _ in 0..rows {
         if at > dst.len() || size > dst.len() - at {
             at = 0;
         }
-        if at < dst.len() && size <= dst.len() - at {
-            run(kernel, &mut dst[at..at + size], &src[at..at + size]);
+        factor = if factor < 255 { factor + 1 } else { 2 };
+        if at < dst.len() && size <= dst.len() - at && factor > 0 {
+            run(
+                kernel,
+                &mut dst[at..at + size],
+                factor,
+                &src[at..at + size],
+                others,
+            );
             at += size;
         }
     }
@@ -98,7 +125,8 @@ fn best_time(
     src: &[u8],
     size: usize,
 ) -> io::Result<u64>
-    requires { length dst.old ≡ length src.now }
+    requires same { length dst.old ≡ length src.now }
+    requires four { 4 * size ≤ length src.now }
 {
     let rows = (BYTES_PER_ROUND / size.max(1)).max(1);
     let mut best = u64::MAX;
@@ -112,7 +140,8 @@ fn best_time(
 
 // Times each kernel on the rows of one buffer.
 fn print_times(rt: &(impl Clock + Print), dst: &mut [u8], src: &[u8], size: usize) -> io::Result<()>
-    requires { length dst.old ≡ length src.now }
+    requires same { length dst.old ≡ length src.now }
+    requires four { 4 * size ≤ length src.now }
 {
     let buffer = dst.len();
     for kernel in [
@@ -139,7 +168,9 @@ fn print_times_in(rt: &(impl Clock + Print + AllocGlobal), size: usize) -> io::R
     let src = buffer(rt.alloc(), size, 0x5A)?;
     let mut dst = buffer(rt.alloc(), size, 0)?;
     for row in [16, 64, 256, 1024, 2048] {
-        print_times(rt, &mut dst, &src, row)?;
+        if row <= src.len() / 4 {
+            print_times(rt, &mut dst, &src, row)?;
+        }
     }
     Ok(())
 }

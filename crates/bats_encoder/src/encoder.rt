@@ -1,11 +1,13 @@
-ghost use Rattle.std.specs.Prelude.{◌≡◌, ◌≢◌, ℕ, ◌<◌, ◌≤◌, ◌↔◌, length, slice_index, IfOk, IfErr, IsErr, IsOk};
-ghost use Rattle.bats_model.specs.Batch.{batch_of, degree_of};
+ghost use Rattle.std.specs.Prelude.{◌≡◌, ◌≢◌, ℕ, ◌+◌, ◌*◌, ◌/◌, ◌^◌, ◌<◌, ◌≤◌, ◌↔◌, length, slice_index, IfOk, IfErr, IsErr, IsOk};
+ghost use Rattle.bats_model.specs.Batch.{batch_of, contributor_of, degree_of, entry_of};
+ghost use Rattle.bats_encoder.specs.Terms.{HasTerms};
 ghost use Rattle.bats_model.specs.Symbol.{symbol_byte};
 ghost use Rattle.bats_model.specs.Coded.{coded_payload, unit_vector};
 ghost use Rattle.bats_model.specs.Agreement.{Agrees};
 
-use crate::row::add_symbol;
+use crate::row::{add_four_symbols, add_symbol};
 use bats_model::{Batch, Bytes, Packet, Session};
+use gf_rows::Multiple;
 use std::alloc::{AllocError, Global};
 use std::marker::Model;
 
@@ -97,16 +99,69 @@ fn symbol_of<'a>(session: &Session, file: &'a [u8], s: u32) -> &'a [u8]
     &file[start..end]
 }
 
-// Makes the payload of coded packet j in a row of zeros, with one row operation a contributor.
+// What contributor k adds to coded packet j: its symbol, times the generator's entry.
+fn multiple_of<'a>(session: &Session, file: &'a [u8], batch: &Batch, j: u32, k: u32) -> Multiple<'a>
+    requires row { k < degree_of batch.now }
+    requires column { j < batch.now.columns }
+    ensures factor { result.factor ≡ entry_of batch.now k j }
+    ensures length { length result.row.now ≤ session.now.t }
+    ensures bytes { (c : ℕ) → c < session.now.t →
+        slice_index result.row.now c ≡ symbol_byte session.now file.now (contributor_of batch.now k) c }
+{
+    let row = symbol_of(session, file, batch.contributor(k));
+    Multiple {
+        factor: batch.entry(k, j),
+        row,
+    }
+}
+
+// Adds four contributors, from this one on, to a payload that has those before them.
+fn add_four_contributors(
+    payload: &mut [u8],
+    session: &Session,
+    file: &[u8],
+    batch: &Batch,
+    j: u32,
+    first: u32,
+)
+    requires column { j < batch.now.columns }
+    requires within { first + 4 ≤ degree_of batch.now }
+    requires counted { degree_of batch.now < 2 ^ 32 }
+    requires length { length payload.old ≡ session.now.t }
+    requires before { HasTerms payload.old session.now file.now batch.now j first }
+    ensures { HasTerms payload.new session.now file.now batch.now j (first + 4) }
+{
+    let a = multiple_of(session, file, batch, j, first);
+    let b = multiple_of(session, file, batch, j, first + 1);
+    let c = multiple_of(session, file, batch, j, first + 2);
+    let d = multiple_of(session, file, batch, j, first + 3);
+    add_four_symbols(payload, &a, &b, &c, &d);
+}
+
+// Adds the contributors to a row of zeros, in groups of four, as far as these go.
+fn add_groups(payload: &mut [u8], session: &Session, file: &[u8], batch: &Batch, j: u32)
+    requires column { j < batch.now.columns }
+    requires length { length payload.old ≡ session.now.t }
+    requires zeros { HasTerms payload.old session.now file.now batch.now j 0 }
+    ensures { HasTerms payload.new session.now file.now batch.now j (degree_of batch.now / 4 * 4) }
+{
+    for group in 0..batch.degree() / 4 {
+        add_four_contributors(payload, session, file, batch, j, group * 4);
+    }
+}
+
+// Makes the payload of coded packet j in a row of zeros. What is left of the groups is added one by one.
 fn fill_payload(payload: &mut [u8], session: &Session, file: &[u8], batch: &Batch, j: u32)
     requires column { j < batch.now.columns }
     requires zeros { (c : ℕ) → c < session.now.t → slice_index payload.old c ≡ 0 }
     requires length { length payload.old ≡ session.now.t }
     ensures { payload.new ≡ coded_payload session.now file.now batch.now j }
 {
-    for k in 0..batch.degree() {
-        let symbol = symbol_of(session, file, batch.contributor(k));
-        add_symbol(payload, batch.entry(k, j), symbol);
+    add_groups(payload, session, file, batch, j);
+    let degree = batch.degree();
+    for k in degree / 4 * 4..degree {
+        let term = multiple_of(session, file, batch, j, k);
+        add_symbol(payload, term.factor, term.row);
     }
 }
 

@@ -21,10 +21,12 @@ use Rattle.bats_model.specs.declared.item.Item.{Item}
 use Rattle.bats_model.proofs.PlainAgreement.{Agrees-plain}
 use Rattle.bats_model.proofs.SystematicBatches.{is_systematic_batch-within}
 use Rattle.bats_model.proofs.UnitVectors.{length-unit_vector}
-use Rattle.bats_tool.specs.declared.source.SourceOptions.{SourceOptions}
-use Rattle.bats_tool.specs.declared.status.Status.TheVariants as statuses
-use Rattle.bats_tool.specs.Options.{HasRanges, session_for}
-use Rattle.bats_tool.specs.Ending.{Ending, source_ending}
+use Rattle.bats_words.specs.declared.source_options.SourceOptions.{SourceOptions}
+use Rattle.tool_run.specs.declared.status.Status.TheVariants as statuses
+use Rattle.bats_words.specs.Options.{HasRanges}
+use Rattle.bats_tool.specs.FileSession.{session_for}
+use Rattle.tool_run.specs.Ending.{Ending}
+use Rattle.bats_tool.specs.Source.{source_ending}
 use Rattle.bats_tool.specs.Sink.{IsSinkEnding}
 use Rattle.bats_tool.proofs.Counts.{length-within, length-beyond}
 use Rattle.bats_tool.proofs.SentPackets.{Sends, sent_packet, batch_packets, sent_packets, packets_for, All-sent, file_for}

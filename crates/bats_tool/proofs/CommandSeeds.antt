@@ -9,11 +9,11 @@ use Rattle.bats_model.specs.Bytes.{AreBytes}
 use Rattle.hex.specs.Hex.{decode_sized}
 use Rattle.hex.specs.declared.error.FromHexError.{FromHexError}
 use Rattle.hex.proofs.HexLemmas.{decode_sized-ok, decode_sized-twice, decode_of-ok}
-use Rattle.bats_tool.specs.declared.command.Command.{Command}
-use Rattle.bats_tool.specs.declared.command.Command.TheVariants.{Source, Sink, Show}
-use Rattle.bats_tool.specs.WordValues.{number_in, seed_of}
-use Rattle.bats_tool.specs.Words.{command_of, read_or, source_of, sink_of, show_of}
-use Rattle.bats_tool.proofs.EachCommand.{command_of-keeps}
+use Rattle.bats_words.specs.declared.command.Command.{Command}
+use Rattle.bats_words.specs.declared.command.Command.TheVariants.{Source, Sink, Show}
+use Rattle.bats_words.specs.WordValues.{number_in, seed_of}
+use Rattle.bats_words.specs.Words.{command_of, read_or, source_of, sink_of, show_of}
+use Rattle.bats_words.proofs.EachCommand.{command_of-keeps}
 
 ok_of : (r : Result (List ℕ) FromHexError) (x : List ℕ) → result_ok r ≡ Some x → r ≡ Ok x
 ok_of (Ok y) x h = cc

@@ -18,10 +18,12 @@ use Rattle.bats_model.specs.declared.answer.Answer.TheVariants.{File, Inconsiste
 use Rattle.bats_format.proofs.PacketFiles.{same_file, further_items}
 use Rattle.bats_format.proofs.JoinedFiles.{packets_of-append}
 use Rattle.bats_format.proofs.Refusals.{no_file_refused}
-use Rattle.bats_tool.specs.declared.source.SourceOptions.{SourceOptions}
-use Rattle.bats_tool.specs.declared.status.Status.TheVariants as statuses
-use Rattle.bats_tool.specs.Options.{HasRanges, session_for}
-use Rattle.bats_tool.specs.Ending.{Ending, source_ending}
+use Rattle.bats_words.specs.declared.source_options.SourceOptions.{SourceOptions}
+use Rattle.tool_run.specs.declared.status.Status.TheVariants as statuses
+use Rattle.bats_words.specs.Options.{HasRanges}
+use Rattle.bats_tool.specs.FileSession.{session_for}
+use Rattle.tool_run.specs.Ending.{Ending}
+use Rattle.bats_tool.specs.Source.{source_ending}
 use Rattle.bats_tool.specs.Sink.{SinkIsNotBuilt, IsSinkEnding, answer_ending}
 use Rattle.bats_tool.proofs.OneEnding.{refused}
 use Rattle.bats_tool.proofs.SentPackets.{Sends, packets_for, AgreesWithAll-sent, IsFile-for, file_for}

@@ -17,14 +17,14 @@ use Rattle.bats_model.specs.declared.read_end.ReadEnd.{ReadEnd}
 use Rattle.bats_model.proofs.RightAnswers.{AreAlike-right}
 use Rattle.bats_format.proofs.PacketFiles.{same_file, same_files, further_items}
 use Rattle.bats_format.proofs.Refusals.{refused_once, no_file_refused}
-use Rattle.bats_tool.specs.declared.command.Command.{Command}
-use Rattle.bats_tool.specs.declared.command.Command.TheVariants as commands
-use Rattle.bats_tool.specs.declared.status.Status.TheVariants as statuses
-use Rattle.bats_tool.specs.Ending.{Ending}
+use Rattle.bats_words.specs.declared.command.Command.{Command}
+use Rattle.bats_words.specs.declared.command.Command.TheVariants as commands
+use Rattle.tool_run.specs.declared.status.Status.TheVariants as statuses
+use Rattle.tool_run.specs.Ending.{Ending}
 use Rattle.bats_tool.specs.Reading.{IsReading, refused_ending}
 use Rattle.bats_tool.specs.Show.{IsShowEnding, show_ending}
 use Rattle.bats_tool.specs.Sink.{ArePlain, SinkAnswers, SinkRefuses, SinkIsNotBuilt, IsSinkEnding, answer_ending, file_line, need_more_line}
-use Rattle.bats_tool.specs.Commands.{IsEnding}
+use Rattle.bats_tool.specs.Promises.{IsEnding}
 
 -- both endings have one status and one notes line, and one output, but for need-more
 abbrev Agree : Ending → Ending → Type 0

@@ -1,5 +1,5 @@
 -- One item after another is received.
-use Rattle.std.proofs.Common.{arith, ℕ, ◌≡◌, Bool, true, List, [], ◌∷◌, ◌++◌, length, ◌≤◌, Option, None, Some, Result, Ok, Err, refl, sym, ap, ◌∙◌, subst, inl, inr, append-nil}
+use Rattle.std.proofs.Common.{arith, ℕ, ◌≡◌, Bool, List, [], ◌∷◌, ◌++◌, length, ◌≤◌, Option, None, Some, Result, Ok, Err, refl, sym, ap, ◌∙◌, subst, inl, inr, append-nil}
 use Rattle.std.specs.Prelude.{IsSome}
 use Rattle.std.specs.List.{All}
 use Rattle.std.specs.Result.{IsErrAnd}
@@ -23,10 +23,10 @@ use Rattle.bats_format.proofs.RecordLemmas.{same_items}
 use Rattle.bats_decode.specs.Decoder as decoder_specs
 use Rattle.bats_decode.specs.Decoder.{DecoderData}
 use Rattle.bats_format.specs.Taking.{ReadsWithin, room_of}
-use Rattle.bats_tool.specs.Commands.{ReadsRecords}
+use Rattle.bats_tool.specs.ReadsRecords.{ReadsOn, ReadsRecords}
 use Rattle.bats_tool.proofs.RecordsRead.{ReadsRecords-begun, record_of-within, ReadsWithin-nothing, ReadsWithin-same}
 use Rattle.bats_tool.proofs.ReaderAnswers.{not_again, file_of, still_ended}
-use Rattle.bats_tool.specs.Sink.{ArePlain}
+use Rattle.bats_tool.specs.Sink.{takes_plain}
 use Rattle.bats_tool.specs.Receiving.{HasReceived, Halts, TakesIn, TakesItem, IsNotPlain, IsRefusedAfter, MeetsNotPlain, ReceivesNext, Receives, ReceivesHeader, IsFresh, HasReceivedAll}
 use Rattle.bats_tool.specs.declared.receive.Halt.{Halt}
 use Rattle.bats_tool.specs.declared.receive.Halt.TheVariants as halts
@@ -86,10 +86,10 @@ stops_at session list item n plain =
 
 -- what was received, and then no whole record
 reads_begun : (start x y : InputState) (r : ReaderData) (d : DecoderData) → HasReceived start x r d
-    → ReadsWithin r.session r.records r.offset x.left y.left [] → ReadsRecords true start.left y.left
+    → ReadsWithin r.session r.records r.offset x.left y.left [] → ReadsRecords takes_plain start.left y.left
 reads_begun start x y r d h q =
-    ReadsRecords-begun true r.session h.bytes h.list r start.left x.left y.left h.reader_stands.read
-    (subst (λ (s : Option SessionData). ArePlain s h.list) (sym h.session) h.plain) h.read r.records r.offset
+    ReadsRecords-begun takes_plain r.session h.bytes h.list r start.left x.left y.left h.reader_stands.read
+    (subst (λ (s : Option SessionData). ReadsOn takes_plain s h.list) (sym h.session) h.plain) h.read r.records r.offset
     h.reader_stands.records h.reader_stands.offset q
 
 -- the session of an item that was read is the reader's
@@ -120,19 +120,19 @@ HasReceived-more start x y r r' d d' item h g t =
 
 -- what was received, and then a record more after which the command reads on
 reads_item : (start x y : InputState) (r r' : ReaderData) (d : DecoderData) (item : Item) → HasReceived start x r d
-    → GivesItem x y r r' item → All (IsPlain d.session) (packets_of (item ∷ [])) → ReadsRecords true start.left y.left
+    → GivesItem x y r r' item → All (IsPlain d.session) (packets_of (item ∷ [])) → ReadsRecords takes_plain start.left y.left
 reads_item start x y r r' d item h g plain =
     let same : g.session ≡ d.session = session_of r.session r'.session d.session g.session h.session g.same_session in
     let stands = g.stands h.bytes h.list h.reader_stands in
-    ReadsRecords-begun true r'.session (h.bytes ++ record_of g.session item) (h.list ++ item ∷ []) r' start.left y.left y.left stands.read
-    (subst (λ (s : Option SessionData). ArePlain s (h.list ++ item ∷ [])) (sym (g.session_is ∙ ap Some same))
+    ReadsRecords-begun takes_plain r'.session (h.bytes ++ record_of g.session item) (h.list ++ item ∷ []) r' start.left y.left y.left stands.read
+    (subst (λ (s : Option SessionData). ReadsOn takes_plain s (h.list ++ item ∷ [])) (sym (g.session_is ∙ ap Some same))
     (plain_more d.session h.list item h.plain plain))
     (IsRead-after start.left x.left y.left h.bytes (record_of g.session item) h.read g.taken)
     r'.records r'.offset stands.records stands.offset (ReadsWithin-same r'.session r'.records r'.offset y.left)
 
 -- what was received, and then exactly the record of a packet that isn't plain
 reads_not_plain : (start x y : InputState) (r r' : ReaderData) (d : DecoderData) (item : Item) → HasReceived start x r d
-    → GivesItem x y r r' item → IsNotPlain d.session item → ReadsRecords true start.left y.left
+    → GivesItem x y r r' item → IsNotPlain d.session item → ReadsRecords takes_plain start.left y.left
 reads_not_plain start x y r r' d item h g n =
     let same : g.session ≡ d.session = session_of r.session r'.session d.session g.session h.session g.same_session in
     let stands = g.stands h.bytes h.list h.reader_stands in
@@ -293,10 +293,10 @@ ReceivesHeader-read x y r r' item s e g is decoder same stands =
     }
 
 -- no whole record was read
-reads_first : (x y : InputState) (r : ReaderData) → IsFresh r → ReadsWithin r.session r.records r.offset x.left y.left [] → ReadsRecords true x.left y.left
+reads_first : (x y : InputState) (r : ReaderData) → IsFresh r → ReadsWithin r.session r.records r.offset x.left y.left [] → ReadsRecords takes_plain x.left y.left
 reads_first x y r e q =
-    ReadsRecords-begun true r.session [] [] r x.left x.left y.left (fresh_stands r e).read
-    (subst (λ (s : Option SessionData). ArePlain s []) (sym (fresh_session r e)) tt) (IsRead-nothing x.left) r.records r.offset
+    ReadsRecords-begun takes_plain r.session [] [] r x.left x.left y.left (fresh_stands r e).read
+    (subst (λ (s : Option SessionData). ReadsOn takes_plain s []) (sym (fresh_session r e)) tt) (IsRead-nothing x.left) r.records r.offset
     (fresh_stands r e).records (fresh_stands r e).offset q
 
 refused_first : (x y : InputState) (r r' : ReaderData) (end : ReadEnd) → IsFresh r → RefusesInput x y r r' end → IsRefusedAfter x y end

@@ -1,7 +1,7 @@
 -- How far a packet file was read.
-use Rattle.std.proofs.Common.{ℕ, ◌+◌, Bool, List, [], ◌∷◌, ◌≡◌, ◌<◌, ◌≤◌, length, drop, Option, None, Some, arith, refl, sym, ap, subst, length-append}
+use Rattle.std.proofs.Common.{ℕ, ◌+◌, List, [], ◌∷◌, ◌≡◌, ◌<◌, ◌≤◌, length, drop, Option, None, Some, arith, refl, sym, ap, subst, length-append}
 use Rattle.std.proofs.lemmas.Bool.Decides.{nat_tests}
-use Rattle.bats_io.specs.Streams.{InputState, IsRead}
+use Rattle.bats_io.specs.Streams.{IsRead}
 use Rattle.bats_io.proofs.ReadLemmas.{IsRead-nothing, IsRead-after}
 use Rattle.bats_model.specs.Session.{SessionData, IsSession}
 use Rattle.bats_model.specs.Records.{header_record, packet_record, header_tag, packet_tag}
@@ -12,7 +12,7 @@ use Rattle.bats_model.specs.declared.item.Item.TheVariants as items
 use Rattle.bats_format.specs.Reader.{ReaderData, HasReadAs}
 use Rattle.bats_format.specs.Taking.{HasNoRecord, room_of, ReadsWithin}
 use Rattle.bats_format.proofs.RecordLemmas.{length-header_record, length-packet_record, record_of-some}
-use Rattle.bats_tool.specs.Commands.{AreRecords, ReadsOn, StopsWithin, ReadsRecords}
+use Rattle.bats_tool.specs.ReadsRecords.{AreRecords, ReadsOn, StopsWithin, ReadsRecords}
 
 pub are_records : (session : Option SessionData) (bytes : List ℕ) (list : List Item) (reader : ReaderData) → HasReadAs session bytes list reader
     → AreRecords session list bytes
@@ -20,17 +20,17 @@ are_records None bytes list reader h = h
 are_records (Some session) bytes list reader h = h
 
 -- bytes that are no whole record
-pub stops_within : (plain : Bool) (session : Option SessionData) (list : List Item) (front begun : List ℕ) (offset : ℕ) → offset ≡ length front
-    → HasNoRecord session offset begun → StopsWithin plain session list front begun
-stops_within plain None list front begun offset e none = none
-stops_within plain (Some session) list front begun offset e none = λ item more place same.
+pub stops_within : (goes_on : SessionData → List Item → Type 0) (session : Option SessionData) (list : List Item) (front begun : List ℕ) (offset : ℕ) → offset ≡ length front
+    → HasNoRecord session offset begun → StopsWithin goes_on session list front begun
+stops_within goes_on None list front begun offset e none = λ session more h same. absurd (none session more h same)
+stops_within goes_on (Some session) list front begun offset e none = λ item more place same.
     absurd (none item more (subst (λ (at : ℕ). IsItemAt session at item) (sym e) place) same)
 
 -- the records that a reader has read, and then a part of the next
-unfoldable pub ReadsRecords-begun : (plain : Bool) (session : Option SessionData) (bytes : List ℕ) (list : List Item) (reader : ReaderData)
-    (a b c : Option (List ℕ)) → HasReadAs session bytes list reader → ReadsOn plain session list → IsRead a b bytes
-    → (records offset : ℕ) → records ≡ length list → offset ≡ length bytes → ReadsWithin session records offset b c [] → ReadsRecords plain a c
-ReadsRecords-begun plain session bytes list reader a b c h on r records offset n e q = record {
+unfoldable pub ReadsRecords-begun : (goes_on : SessionData → List Item → Type 0) (session : Option SessionData) (bytes : List ℕ) (list : List Item) (reader : ReaderData)
+    (a b c : Option (List ℕ)) → HasReadAs session bytes list reader → ReadsOn goes_on session list → IsRead a b bytes
+    → (records offset : ℕ) → records ≡ length list → offset ≡ length bytes → ReadsWithin session records offset b c [] → ReadsRecords goes_on a c
+ReadsRecords-begun goes_on session bytes list reader a b c h on r records offset n e q = record {
   session = session;
   list = list;
   front = bytes;
@@ -39,7 +39,7 @@ ReadsRecords-begun plain session bytes list reader a b c h on r records offset n
   reads_on = on;
   read = IsRead-after a b c bytes q.bytes r q.read;
   within = subst (λ (count : ℕ). length q.bytes ≤ room_of session count q.bytes) n q.within;
-  stops = stops_within plain session list bytes q.bytes offset e q.none;
+  stops = stops_within goes_on session list bytes q.bytes offset e q.none;
 }
 
 -- no record is empty
@@ -76,8 +76,3 @@ record_of-within session records offset (items.Header at) few is place =
 record_of-within session records offset (items.Packet at packet) few is place =
     within-packet session records (packet_record packet.batch packet.coefs packet.payload) few refl
     (omega (arith, length-packet_record session packet place.1))
-
--- an input of which nothing was read
-pub unread : (session : Option SessionData) (records offset : ℕ) (x y : InputState) → y ≡ x → ReadsWithin session records offset x.left y.left []
-unread session records offset x y same =
-    subst (λ (i : InputState). ReadsWithin session records offset x.left i.left []) (sym same) (ReadsWithin-same session records offset x.left)

@@ -20,11 +20,13 @@ use Rattle.bats_model.proofs.SystematicBatches.{number-batch_of}
 use Rattle.bats_model.proofs.UnitVectors.{length-unit_vector, unit_vector-lt}
 use Rattle.bats_model.proofs.SymbolValues.{coded_payload-lt}
 use Rattle.bats_encoder.proofs.Agreements.{Agrees-coded, length-coded_payload}
-use Rattle.bats_tool.specs.declared.source.SourceOptions.{SourceOptions}
-use Rattle.bats_tool.specs.declared.status.Status.TheVariants as statuses
-use Rattle.bats_tool.specs.Options.{HasRanges, session_for}
+use Rattle.bats_words.specs.declared.source_options.SourceOptions.{SourceOptions}
+use Rattle.tool_run.specs.declared.status.Status.TheVariants as statuses
+use Rattle.bats_words.specs.Options.{HasRanges}
+use Rattle.bats_tool.specs.FileSession.{session_for}
 use Rattle.bats_tool.specs.Source.{source_output, packet_records, batch_records, coded_record}
-use Rattle.bats_tool.specs.Ending.{Ending, source_ending}
+use Rattle.tool_run.specs.Ending.{Ending}
+use Rattle.bats_tool.specs.Source.{source_ending}
 use Rattle.bats_tool.proofs.Endings.{done_ending, source_ending-done}
 
 -- ---- packets, one after another

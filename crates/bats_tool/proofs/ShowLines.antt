@@ -1,6 +1,6 @@
 -- The lines of `show`, and parts of them.
-use Rattle.std.proofs.Common.{ℕ, ◌≡◌, ◌+◌, false, List, [], ◌∷◌, ◌++◌, length, take, drop, Option, None, Some, IsSome, Err, refl, sym, ap, ◌∙◌, inl, inr, append-nil, append_assoc, length-append}
-use Rattle.std.proofs.lemmas.List.{take-append-drop}
+use Rattle.std.proofs.Common.{ℕ, ◌≡◌, ◌+◌, List, [], ◌∷◌, ◌++◌, length, take, Option, None, Some, IsSome, Err, refl, sym, ap, ◌∙◌, subst, inl, inr, append-nil, append_assoc, length-append}
+use Rattle.tool_run.proofs.Begun.{front-all, front-take}
 use Rattle.bats_io.specs.Streams.{IsRead}
 use Rattle.bats_io.proofs.ReadLemmas.{IsTold-after, told_or, IsTold-told_or}
 use Rattle.bats_format.specs.Reader.{ReaderData, HasReadAs}
@@ -10,14 +10,17 @@ use Rattle.bats_model.specs.PacketFile.{IsPacketFile, packets_of}
 use Rattle.bats_model.specs.declared.packet.Packet.{Packet}
 use Rattle.bats_model.specs.declared.item.Item.{Item}
 use Rattle.bats_tool.proofs.RecordsRead.{ReadsRecords-begun, ReadsWithin-same}
-use Rattle.bats_tool.specs.declared.command.Command.TheVariants as commands
-use Rattle.bats_tool.specs.declared.stop.Stop.{Stop}
-use Rattle.bats_tool.specs.declared.stop.Stop.TheVariants as stops
-use Rattle.bats_tool.specs.Streams.{Ends}
-use Rattle.bats_tool.specs.Commands.{IsPart}
-use Rattle.bats_tool.specs.Show.{item_line, item_lines, lines_read}
-use Rattle.bats_tool.specs.Attempt.{Attempts}
-use Rattle.bats_tool.specs.Writes.{Writes}
+use Rattle.tool_run.specs.declared.stop.Stop.{Stop}
+use Rattle.tool_run.specs.declared.stop.Stop.TheVariants as stops
+use Rattle.tool_run.specs.Streams.{Ends}
+use Rattle.bats_tool.specs.ReadsRecords.{ReadsOn}
+use Rattle.bats_tool.specs.Show.{item_line, item_lines, lines_read, takes_all, AreLinesBegun, show_ending, show_promise}
+use Rattle.tool_run.specs.Attempt.{Attempts}
+use Rattle.tool_run.specs.Ending.{Ending}
+use Rattle.tool_run.specs.Promise.{Keeps}
+use Rattle.bats_model.specs.declared.read_end.ReadEnd.{ReadEnd}
+use Rattle.bats_tool.specs.Reading.{IsReading}
+use Rattle.tool_run.specs.Writes.{Writes}
 
 pub count-append : (list others : List Item) → length (packets_of (list ++ others)) ≡ length (packets_of list) + length (packets_of others)
 count-append list others = ap (length {A = Packet}) (packets_of-append list others) ∙ length-append (packets_of list) (packets_of others)
@@ -42,9 +45,14 @@ lines_of None session bytes list reader h same = no_lines session list h.1
 lines_of (Some other) session bytes list reader h same =
     let e : other ≡ session = cc (same refl) in ap (λ (x : SessionData). item_lines x list) e
 
+-- `show` reads on after any items
+pub all_taken : (session : Option SessionData) (list : List Item) → ReadsOn takes_all session list
+all_taken None list = tt
+all_taken (Some session) list = tt
+
 -- all of the lines so far
 pub lines_all : (s : Option SessionData) (bytes rest : List ℕ) (list : List Item) (reader : ReaderData) → HasReadAs s bytes list reader
-    → IsPart (Some commands.Show) (bytes ++ rest) (lines_read s list)
+    → AreLinesBegun (bytes ++ rest) (lines_read s list)
 lines_all None bytes rest list reader h = inl refl
 lines_all (Some session) bytes rest list reader h = inr (record {
   session = session;
@@ -52,32 +60,32 @@ lines_all (Some session) bytes rest list reader h = inr (record {
   before = bytes;
   after = rest;
   is_front = record { file = h; split = refl };
-  front = ([], sym (append-nil (item_lines session list)));
+  front = front-all (item_lines session list);
 })
 
 -- a front of the lines of a file
 lines_front : (session : SessionData) (bytes rest : List ℕ) (list : List Item) (count : ℕ) → IsPacketFile session list bytes
-    → IsPart (Some commands.Show) (bytes ++ rest) (take count (item_lines session list))
+    → AreLinesBegun (bytes ++ rest) (take count (item_lines session list))
 lines_front session bytes rest list count file = inr (record {
   session = session;
   list = list;
   before = bytes;
   after = rest;
   is_front = record { file = file; split = refl };
-  front = (drop count (item_lines session list), sym (take-append-drop count (item_lines session list)));
+  front = front-take count (item_lines session list);
 })
 
 -- a line was cut short
 pub Attempts-line_cut : (start now : Ends) (session : SessionData) (bytes : List ℕ) (list : List Item) (reader : ReaderData) (stop : Stop) → IsPacketFile session list bytes
     → IsRead start.input.left now.input.left bytes → now.input.faults ≡ start.input.faults
-    → Writes start.output.written now.output.written start.output.faults now.output.faults (item_lines session list) (Some stop)
-    → Attempts (Some commands.Show) start now (Err stop)
+    → Writes start.output now.output (item_lines session list) (Some stop)
+    → Attempts show_promise start now (Err stop)
 Attempts-line_cut start now session bytes list reader stops.WriteFault file read no_fault w =
     let rest = told_or now.input.left [] in
     record {
       input = bytes ++ rest;
       told = IsTold-after start.input.left now.input.left bytes rest read (IsTold-told_or now.input.left []);
-      read = ReadsRecords-begun false (Some session) bytes list reader start.input.left now.input.left now.input.left file tt read
+      read = ReadsRecords-begun takes_all (Some session) bytes list reader start.input.left now.input.left now.input.left file tt read
           (length list) (length bytes) refl refl (ReadsWithin-same (Some session) (length list) (length bytes) now.input.left);
       as_far = record {
         input_fault = no_fault;
@@ -94,7 +102,7 @@ Attempts-line_cut start now session bytes list reader stops.Memory file read no_
     record {
       input = bytes ++ rest;
       told = IsTold-after start.input.left now.input.left bytes rest read (IsTold-told_or now.input.left []);
-      read = ReadsRecords-begun false (Some session) bytes list reader start.input.left now.input.left now.input.left file tt read
+      read = ReadsRecords-begun takes_all (Some session) bytes list reader start.input.left now.input.left now.input.left file tt read
           (length list) (length bytes) refl refl (ReadsWithin-same (Some session) (length list) (length bytes) now.input.left);
       as_far = record {
         input_fault = no_fault;
@@ -106,6 +114,33 @@ Attempts-line_cut start now session bytes list reader stops.Memory file read no_
         output_fault = w.as_far.1;
       };
     }
-Attempts-line_cut start now session bytes list reader stops.Usage file read no_fault w = absurd w.as_far
-Attempts-line_cut start now session bytes list reader stops.Symbols file read no_fault w = absurd w.as_far
 Attempts-line_cut start now session bytes list reader stops.ReadFault file read no_fault w = absurd w.as_far
+
+-- ---- the whole output of a right ending
+
+whole_lines : (input : List ℕ) (session : Option SessionData) (list : List Item) (end : Option ReadEnd) → IsReading input session list end
+    → AreLinesBegun input (show_ending session list end).output
+whole_lines input None list None r = absurd r
+whole_lines input None list (Some end) r = inl refl
+whole_lines input (Some session) list None r = inr (record {
+  session = session;
+  list = list;
+  before = input;
+  after = [];
+  is_front = record { file = r; split = sym (append-nil input) };
+  front = front-all (item_lines session list);
+})
+whole_lines input (Some session) list (Some end) r = inr (record {
+  session = session;
+  list = list;
+  before = r.front;
+  after = r.rest;
+  is_front = r.longest.is_front;
+  front = front-all (item_lines session list);
+})
+
+pub show_promise-keeps : Keeps show_promise
+show_promise-keeps = record {
+  whole = λ input ending e.
+      subst (λ (x : Ending). AreLinesBegun input x.output) (sym e.ending_is) (whole_lines input e.session e.list e.end e.reading);
+}

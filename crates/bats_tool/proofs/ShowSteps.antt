@@ -14,27 +14,22 @@ use Rattle.bats_model.specs.PacketFile.{packets_of, record_of}
 use Rattle.bats_model.specs.declared.item.Item.{Item}
 use Rattle.bats_model.specs.declared.read_end.ReadEnd.{ReadEnd}
 use Rattle.bats_model.specs.declared.read_end.ReadEnd.TheVariants as ends
-use Rattle.bats_tool.specs.declared.command.Command.TheVariants as commands
-use Rattle.bats_tool.specs.declared.finish.Finish.{Finish}
-use Rattle.bats_tool.specs.declared.status.Status.{Status}
-use Rattle.bats_tool.specs.declared.status.Status.TheVariants as statuses
-use Rattle.bats_tool.specs.declared.stop.Stop.{Stop}
-use Rattle.bats_tool.specs.declared.stop.Stop.TheVariants as stops
-use Rattle.bats_tool.specs.Streams.{Ends}
+use Rattle.tool_run.specs.declared.finish.Finish.{Finish}
+use Rattle.tool_run.specs.declared.status.Status.TheVariants as statuses
+use Rattle.tool_run.specs.declared.stop.Stop.{Stop}
+use Rattle.tool_run.specs.declared.stop.Stop.TheVariants as stops
+use Rattle.tool_run.specs.Streams.{Ends}
 use Rattle.bats_tool.specs.Reading.{IsReading, refusal_status, refused_ending}
-use Rattle.bats_tool.specs.Run.{HasRead}
-use Rattle.bats_tool.specs.Show.{item_line, item_lines, lines_read, show_line, show_ending}
-use Rattle.bats_tool.specs.Attempt.{Attempts, IsOfEnding}
-use Rattle.bats_tool.specs.Writes.{Writes, Flushes}
-use Rattle.bats_tool.specs.Showing.{HasShown, Reaches, Shows, StepsTo}
+use Rattle.bats_tool.specs.Show.{item_line, item_lines, lines_read, show_line, show_ending, show_promise, takes_all}
+use Rattle.tool_run.specs.Attempt.{Attempts, IsOfEnding}
+use Rattle.tool_run.specs.Writes.{Writes}
+use Rattle.bats_tool.specs.Showing.{HasShown, StepsTo}
 use Rattle.bats_tool.specs.Refused.{EndsAs, IsFinishOf}
-use Rattle.bats_tool.proofs.Parts.{WritesPart-whole, WritesPart-same}
-use Rattle.bats_tool.proofs.Writing.{Writes-after, Writes-same}
+use Rattle.tool_run.proofs.Writing.{Writes-after, Writes-same}
 use Rattle.bats_format.specs.Taking.{ReadsWithin}
-use Rattle.bats_tool.specs.Commands.{ReadsRecords}
 use Rattle.bats_tool.proofs.RecordsRead.{ReadsRecords-begun, ReadsWithin-nothing}
 use Rattle.bats_tool.proofs.ReaderAnswers.{not_again, file_of, still_ended}
-use Rattle.bats_tool.proofs.ShowLines.{count-append, item_lines-more, lines_of, lines_all, Attempts-line_cut}
+use Rattle.bats_tool.proofs.ShowLines.{all_taken, count-append, item_lines-more, lines_of, lines_all, Attempts-line_cut}
 
 -- ---- an item
 
@@ -47,10 +42,10 @@ lines_before x y i reader reader' item h p s g =
 -- what was written up to the item's line, or within it
 writes_lines : (x y z : Ends) (reader reader' : ReaderData) (item : Item) (h p : ℕ) (r : Option Stop) (s : HasShown x y reader h p)
     (g : GivesItem y.input z.input reader reader' item)
-    → Writes y.output.written z.output.written y.output.faults z.output.faults (item_line g.session item) r
-    → Writes x.output.written z.output.written x.output.faults z.output.faults (item_lines g.session (s.list ++ item ∷ [])) r
+    → Writes y.output z.output (item_line g.session item) r
+    → Writes x.output z.output (item_lines g.session (s.list ++ item ∷ [])) r
 writes_lines x y z reader reader' item h p r s g w =
-    let before : Writes x.output.written y.output.written x.output.faults y.output.faults (item_lines g.session s.list) None =
+    let before : Writes x.output y.output (item_lines g.session s.list) None =
     record {
       as_far = (s.output ∙ ap (appended x.output.written) (lines_before x y z.input reader reader' item h p s g), s.output_fault);
     } in
@@ -59,7 +54,7 @@ writes_lines x y z reader reader' item h p r s g w =
 -- its line was written
 pub HasShown-more : (x y z : Ends) (reader reader' : ReaderData) (item : Item) (h p k q : ℕ) → HasShown x y reader h p
     → (g : GivesItem y.input z.input reader reader' item)
-    → Writes y.output.written z.output.written y.output.faults z.output.faults (item_line g.session item) None
+    → Writes y.output z.output (item_line g.session item) None
     → k + q ≡ h + p + 1 → q ≡ p + length (packets_of (item ∷ [])) → HasShown x z reader' k q
 HasShown-more x y z reader reader' item h p k q s g w all packets =
     let written = writes_lines x y z reader reader' item h p None s g w in
@@ -80,8 +75,8 @@ HasShown-more x y z reader reader' item h p k q s g w all packets =
 -- its line was cut short
 pub Attempts-item_cut : (x y z : Ends) (reader reader' : ReaderData) (item : Item) (h p : ℕ) (stop : Stop) → HasShown x y reader h p
     → (g : GivesItem y.input z.input reader reader' item)
-    → Writes y.output.written z.output.written y.output.faults z.output.faults (item_line g.session item) (Some stop)
-    → Attempts (Some commands.Show) x z (Err stop)
+    → Writes y.output z.output (item_line g.session item) (Some stop)
+    → Attempts show_promise x z (Err stop)
 Attempts-item_cut x y z reader reader' item h p stop s g w =
     let stands = g.stands s.bytes s.list s.stands in
     Attempts-line_cut x z g.session (s.bytes ++ record_of g.session item) (s.list ++ item ∷ []) reader' stop
@@ -97,34 +92,37 @@ reading_of : (s : Option SessionData) (bytes : List ℕ) (list : List Item) (rea
 reading_of None bytes list reader h some = cc
 reading_of (Some session) bytes list reader h some = h
 
-pub Reaches-end : (x y z : Ends) (reader reader' : ReaderData) (h p : ℕ) (finish : Finish) → HasShown x y reader h p
+pub Attempts-end : (x y z : Ends) (reader reader' : ReaderData) (h p : ℕ) (finish : Finish) → HasShown x y reader h p
     → GivesEnd y.input z.input reader reader' → z.output ≡ y.output
     → finish.status ≡ statuses.Done → string_bytes finish.line ≡ show_line h p
-    → Reaches x z finish.status (string_bytes finish.line)
-Reaches-end x y z reader reader' h p finish s g same status line =
+    → Attempts show_promise x z (Ok finish)
+Attempts-end x y z reader reader' h p finish s g same status line =
     let left = g.nothing_left s.is_open.not_ended in
     let headers : h ≡ length s.list - length (packets_of s.list) = omega (arith, s.counted, s.packets_are) in
     record {
       input = s.bytes;
       told = IsTold-read x.input.left y.input.left s.bytes s.read left.1;
-      ending = show_ending reader.session s.list None;
-      is_ending = record {
-        session = reader.session;
-        list = s.list;
-        end = None;
-        reading = reading_of reader.session s.bytes s.list reader s.stands.read left.0;
-        ending_is = refl;
+      read = ReadsRecords-begun takes_all reader.session s.bytes s.list reader x.input.left y.input.left z.input.left s.stands.read
+          (all_taken reader.session s.list) s.read reader.records reader.offset s.stands.records s.stands.offset
+          (ReadsWithin-nothing reader.session reader.records reader.offset y.input.left z.input.left g.nothing_read);
+      as_far = record {
+        ending = show_ending reader.session s.list None;
+        is_ending = record {
+          session = reader.session;
+          list = s.list;
+          end = None;
+          reading = reading_of reader.session s.bytes s.list reader s.stands.read left.0;
+          ending_is = refl;
+        };
+        status_is = status;
+        of_ending = subst IsOfEnding (sym status) tt;
+        line_is = line ∙ ap (λ (n : ℕ). show_line n p) headers
+            ∙ ap (show_line (length s.list - length (packets_of s.list))) s.packets_are;
+        read = still_ended y.input.left z.input.left left.1 g.nothing_read;
+        input_fault = g.no_fault ∙ s.input_fault;
+        output = ap (λ (o : OutputState). o.written) same ∙ s.output;
+        output_fault = ap (λ (o : OutputState). o.faults) same ∙ s.output_fault;
       };
-      status_is = status;
-      of_ending = subst IsOfEnding (sym status) tt;
-      line_is = line ∙ ap (λ (n : ℕ). show_line n p) headers
-          ∙ ap (show_line (length s.list - length (packets_of s.list))) s.packets_are;
-      reads = ReadsRecords-begun false reader.session s.bytes s.list reader x.input.left y.input.left z.input.left s.stands.read tt s.read
-          reader.records reader.offset s.stands.records s.stands.offset (ReadsWithin-nothing reader.session reader.records reader.offset y.input.left z.input.left g.nothing_read);
-      read = still_ended y.input.left z.input.left left.1 g.nothing_read;
-      input_fault = g.no_fault ∙ s.input_fault;
-      output = ap (λ (o : OutputState). o.written) same ∙ s.output;
-      output_fault = ap (λ (o : OutputState). o.faults) same ∙ s.output_fault;
     }
 
 -- ---- the input is not read any further
@@ -132,13 +130,14 @@ Reaches-end x y z reader reader' h p finish s g same status line =
 -- memory ran out, or a read failed: the lines so far stand
 pub Attempts-memory : (x y z : Ends) (reader : ReaderData) (h p : ℕ) → HasShown x y reader h p
     → ReadsWithin reader.session reader.records reader.offset y.input.left z.input.left [] → z.input.faults ≡ y.input.faults → z.output ≡ y.output
-    → Attempts (Some commands.Show) x z (Err stops.Memory)
+    → Attempts show_promise x z (Err stops.Memory)
 Attempts-memory x y z reader h p s reads no_fault same =
     let rest = told_or y.input.left [] in
     record {
       input = s.bytes ++ rest;
       told = IsTold-after x.input.left y.input.left s.bytes rest s.read (IsTold-told_or y.input.left []);
-      read = ReadsRecords-begun false reader.session s.bytes s.list reader x.input.left y.input.left z.input.left s.stands.read tt s.read reader.records reader.offset s.stands.records s.stands.offset reads;
+      read = ReadsRecords-begun takes_all reader.session s.bytes s.list reader x.input.left y.input.left z.input.left s.stands.read
+          (all_taken reader.session s.list) s.read reader.records reader.offset s.stands.records s.stands.offset reads;
       as_far = record {
         input_fault = no_fault ∙ s.input_fault;
         output = record {
@@ -152,20 +151,22 @@ Attempts-memory x y z reader h p s reads no_fault same =
 
 pub Attempts-read_fault : (x y z : Ends) (reader : ReaderData) (h p : ℕ) → HasShown x y reader h p
     → ReadsWithin reader.session reader.records reader.offset y.input.left z.input.left [] → Rose y.input.faults z.input.faults → z.output ≡ y.output
-    → Attempts (Some commands.Show) x z (Err stops.ReadFault)
+    → Attempts show_promise x z (Err stops.ReadFault)
 unfolding ReadsRecords-begun
 Attempts-read_fault x y z reader h p s reads fault same =
     let rest = told_or y.input.left [] in
     record {
       input = s.bytes ++ rest;
       told = IsTold-after x.input.left y.input.left s.bytes rest s.read (IsTold-told_or y.input.left []);
-      read = ReadsRecords-begun false reader.session s.bytes s.list reader x.input.left y.input.left z.input.left s.stands.read tt s.read reader.records reader.offset s.stands.records s.stands.offset reads;
+      read = ReadsRecords-begun takes_all reader.session s.bytes s.list reader x.input.left y.input.left z.input.left s.stands.read
+          (all_taken reader.session s.list) s.read reader.records reader.offset s.stands.records s.stands.offset reads;
       as_far = record {
         input_fault = subst (λ (n : ℕ). Rose n z.input.faults) s.input_fault fault;
         output = record {
           part = lines_read reader.session s.list;
           is_part = record {
-            reads = ReadsRecords-begun false reader.session s.bytes s.list reader x.input.left y.input.left z.input.left s.stands.read tt s.read reader.records reader.offset s.stands.records s.stands.offset reads;
+            reads = ReadsRecords-begun takes_all reader.session s.bytes s.list reader x.input.left y.input.left z.input.left s.stands.read
+                (all_taken reader.session s.list) s.read reader.records reader.offset s.stands.records s.stands.offset reads;
             lines = refl;
           };
           written = ap (λ (o : OutputState). o.written) same ∙ s.output;
@@ -181,39 +182,31 @@ refused_reading : (s : Option SessionData) (bytes left : List ℕ) (list : List 
 refused_reading None bytes left list reader end h r = (h.1, r)
 refused_reading (Some session) bytes left list reader end h r = r
 
--- a refusal leaves it open how much of the input was read
-read_of_refusal : (end : ReadEnd) (a b : Option (List ℕ)) → IsOfEnding (refusal_status end) → HasRead (refusal_status end) a b
-read_of_refusal ends.Memory a b o = absurd o
-read_of_refusal ends.ReadFault a b o = absurd o
-read_of_refusal ends.NoHeader a b o = tt
-read_of_refusal (ends.BadHeader field) a b o = tt
-read_of_refusal (ends.BadTag at byte) a b o = tt
-read_of_refusal (ends.OtherSession at) a b o = tt
-read_of_refusal (ends.Truncated at) a b o = tt
-read_of_refusal ends.TooManyRecords a b o = tt
-
 of_input : (x y z : Ends) (reader reader' : ReaderData) (h p : ℕ) (end : ReadEnd) (finish : Finish) → HasShown x y reader h p
     → RefusesInput y.input z.input reader reader' end → z.output ≡ y.output → IsFinishOf end finish
-    → Reaches x z finish.status (string_bytes finish.line)
+    → Attempts show_promise x z (Ok finish)
 of_input x y z reader reader' h p end finish s r same f = record {
   input = s.bytes ++ r.left;
   told = IsTold-after x.input.left y.input.left s.bytes r.left s.read r.told;
-  ending = refused_ending (lines_read reader.session s.list) end;
-  is_ending = record {
-    session = reader.session;
-    list = s.list;
-    end = Some end;
-    reading = refused_reading reader.session s.bytes r.left s.list reader end s.stands.read (r.is_refused s.bytes s.list s.stands);
-    ending_is = refl;
+  read = ReadsRecords-begun takes_all reader.session s.bytes s.list reader x.input.left y.input.left z.input.left s.stands.read
+      (all_taken reader.session s.list) s.read reader.records reader.offset s.stands.records s.stands.offset r.read;
+  as_far = record {
+    ending = refused_ending (lines_read reader.session s.list) end;
+    is_ending = record {
+      session = reader.session;
+      list = s.list;
+      end = Some end;
+      reading = refused_reading reader.session s.bytes r.left s.list reader end s.stands.read (r.is_refused s.bytes s.list s.stands);
+      ending_is = refl;
+    };
+    status_is = f.status;
+    of_ending = f.of_ending;
+    line_is = f.line;
+    read = tt;
+    input_fault = r.no_fault ∙ s.input_fault;
+    output = ap (λ (o : OutputState). o.written) same ∙ s.output;
+    output_fault = ap (λ (o : OutputState). o.faults) same ∙ s.output_fault;
   };
-  status_is = f.status;
-  of_ending = f.of_ending;
-  line_is = f.line;
-  reads = ReadsRecords-begun false reader.session s.bytes s.list reader x.input.left y.input.left z.input.left s.stands.read tt s.read reader.records reader.offset s.stands.records s.stands.offset r.read;
-  read = read_of_refusal end x.input.left z.input.left (subst IsOfEnding f.status f.of_ending);
-  input_fault = r.no_fault ∙ s.input_fault;
-  output = ap (λ (o : OutputState). o.written) same ∙ s.output;
-  output_fault = ap (λ (o : OutputState). o.faults) same ∙ s.output_fault;
 }
 
 -- what a refusal says that is none of a call
@@ -234,10 +227,10 @@ refuses_input y z reader reader' (ends.Truncated at) o (inr r) f = r
 refuses_input y z reader reader' ends.TooManyRecords o (inl r) f = absurd (not_again o r)
 refuses_input y z reader reader' ends.TooManyRecords o (inr r) f = r
 
-pub Reaches-refused : (x y z : Ends) (reader reader' : ReaderData) (h p : ℕ) (end : ReadEnd) (finish : Finish) → HasShown x y reader h p
+pub Attempts-ended : (x y z : Ends) (reader reader' : ReaderData) (h p : ℕ) (end : ReadEnd) (finish : Finish) → HasShown x y reader h p
     → Refuses y.input z.input reader reader' end → z.output ≡ y.output → EndsAs end (Ok finish)
-    → Reaches x z finish.status (string_bytes finish.line)
-Reaches-refused x y z reader reader' h p end finish s r same f =
+    → Attempts show_promise x z (Ok finish)
+Attempts-ended x y z reader reader' h p end finish s r same f =
     of_input x y z reader reader' h p end finish s
     (refuses_input y.input z.input reader reader' end s.is_open r (subst IsOfEnding f.status f.of_ending)) same f
 
@@ -253,13 +246,13 @@ lacking y z reader reader' o (inr r) = r
 
 -- ---- from the steps to the whole
 
-of_stop : (x z : Ends) (stop other : Stop) → stop ≡ other → Attempts (Some commands.Show) x z (Err other) → Attempts (Some commands.Show) x z (Err stop)
-of_stop x z stop other e a = subst (λ (s : Stop). Attempts (Some commands.Show) x z (Err s)) (sym e) a
+of_stop : (x z : Ends) (stop other : Stop) → stop ≡ other → Attempts show_promise x z (Err other) → Attempts show_promise x z (Err stop)
+of_stop x z stop other e a = subst (λ (s : Stop). Attempts show_promise x z (Err s)) (sym e) a
 
 -- a refusal whose notes line could not be made, or a call that failed
 pub Attempts-refused : (x y z : Ends) (reader reader' : ReaderData) (h p : ℕ) (end : ReadEnd) (stop : Stop) → HasShown x y reader h p
     → Refuses y.input z.input reader reader' end → z.output ≡ y.output → EndsAs end (Err stop)
-    → Attempts (Some commands.Show) x z (Err stop)
+    → Attempts show_promise x z (Err stop)
 Attempts-refused x y z reader reader' h p ends.Memory stop s r same e =
     of_stop x z stop stops.Memory e
     (let q : LacksMemory y.input z.input reader reader' = lacking y.input z.input reader reader' s.is_open r in
@@ -303,36 +296,9 @@ HasShown-nothing x reader stands is_open none = record {
   output_fault = refl;
 }
 
--- a `?` that passes on what stopped the run
-pub Attempts-exit : (x z : Ends) (stop : Stop) (s : Result Finish Stop) → IsErrAnd s (λ y. y ≡ stop)
-    → Attempts (Some commands.Show) x z (Err stop) → Attempts (Some commands.Show) x z s
-Attempts-exit x z stop s is a =
-    let w = err_from_is_err_and s is in
-    subst (λ (q : Result Finish Stop). Attempts (Some commands.Show) x z q) (sym w.1)
-    (subst (λ (q : Stop). Attempts (Some commands.Show) x z (Err q)) (sym w.2) a)
-
--- the output could not be flushed
-pub Attempts-not_flushed : (x y z : Ends) (stop : Stop) (status : Status) (line : List ℕ) → Reaches x y status line
-    → z.input ≡ y.input → Flushes y.output z.output (Err stop) → Attempts (Some commands.Show) x z (Err stop)
-Attempts-not_flushed x y z stops.WriteFault status line r same f = record {
-  input = r.input;
-  told = r.told;
-  read = subst (λ (l : Option (List ℕ)). ReadsRecords false x.input.left l) (ap (λ (i : InputState). i.left) (sym same)) r.reads;
-  as_far = record {
-    input_fault = ap (λ (i : InputState). i.faults) same ∙ r.input_fault;
-    output = WritesPart-same (Some commands.Show) r.input x.output y.output z.output f.as_far.written
-        (WritesPart-whole (Some commands.Show) r.input r.ending x.output y.output r.is_ending r.output);
-    output_fault = subst (λ (n : ℕ). Rose n z.output.faults) r.output_fault f.as_far.faults;
-  };
-}
-Attempts-not_flushed x y z stops.Usage status line r same f = absurd f.as_far
-Attempts-not_flushed x y z stops.Symbols status line r same f = absurd f.as_far
-Attempts-not_flushed x y z stops.ReadFault status line r same f = absurd f.as_far
-Attempts-not_flushed x y z stops.Memory status line r same f = absurd f.as_far
-
 -- a `?` of a step that passes on what stopped the run
 pub StepsTo-exit : (x z : Ends) (reader : ReaderData) (h p : ℕ) (stop : Stop) (r : Result (Option Finish) Stop) → IsErrAnd r (λ y. y ≡ stop)
-    → Attempts (Some commands.Show) x z (Err stop) → StepsTo x z reader h p r
+    → Attempts show_promise x z (Err stop) → StepsTo x z reader h p r
 StepsTo-exit x z reader h p stop r is a =
     let w = err_from_is_err_and r is in
     subst (λ (q : Result (Option Finish) Stop). StepsTo x z reader h p q) (sym w.1)
@@ -350,7 +316,6 @@ HasShown-fresh x reader stands fresh =
     (ap (λ (r : ReaderData). r.session) fresh)
 
 -- the step that ends the loop
-pub Shows-finish : (x z : Ends) (reader : ReaderData) (h p : ℕ) (answer : Option Finish) (finish : Finish) → answer ≡ Some finish
-    → StepsTo x z reader h p (Ok answer) → Shows x z (Ok finish)
-Shows-finish x z reader h p answer finish e s =
-    record { as_far = (subst (λ (o : Option Finish). StepsTo x z reader h p (Ok o)) e s).as_far }
+pub Attempts-finish : (x z : Ends) (reader : ReaderData) (h p : ℕ) (answer : Option Finish) (finish : Finish) → answer ≡ Some finish
+    → StepsTo x z reader h p (Ok answer) → Attempts show_promise x z (Ok finish)
+Attempts-finish x z reader h p answer finish e s = (subst (λ (o : Option Finish). StepsTo x z reader h p (Ok o)) e s).as_far

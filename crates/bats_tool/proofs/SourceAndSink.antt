@@ -4,16 +4,18 @@ use Rattle.std.specs.Int.{div_ceil}
 use Rattle.std.proofs.lemmas.Bool.{cases_lt}
 use Rattle.bats_model.specs.Bytes.{AreBytes}
 use Rattle.bats_model.specs.Session.{symbols_of, symbol_count}
-use Rattle.bats_tool.specs.declared.command.Command.{Command}
-use Rattle.bats_tool.specs.declared.command.Command.TheVariants as commands
-use Rattle.bats_tool.specs.declared.source.SourceOptions.{SourceOptions}
-use Rattle.bats_tool.specs.declared.status.Status.TheVariants as statuses
-use Rattle.bats_tool.specs.Options.{session_for, source_options}
-use Rattle.bats_tool.specs.Words.{command_of}
-use Rattle.bats_tool.specs.Ending.{Ending, source_ending}
+use Rattle.bats_words.specs.declared.command.Command.{Command}
+use Rattle.bats_words.specs.declared.command.Command.TheVariants as commands
+use Rattle.bats_words.specs.declared.source_options.SourceOptions.{SourceOptions}
+use Rattle.tool_run.specs.declared.status.Status.TheVariants as statuses
+use Rattle.bats_words.specs.Options.{source_options}
+use Rattle.bats_tool.specs.FileSession.{session_for}
+use Rattle.bats_words.specs.Words.{command_of}
+use Rattle.tool_run.specs.Ending.{Ending}
+use Rattle.bats_tool.specs.Source.{source_ending}
 use Rattle.bats_tool.specs.Sink.{IsSinkEnding}
-use Rattle.bats_tool.specs.Commands.{IsEnding}
-use Rattle.bats_tool.proofs.CommandRanges.{command_of-ranges}
+use Rattle.bats_tool.specs.Promises.{IsEnding}
+use Rattle.bats_words.proofs.CommandRanges.{command_of-ranges}
 use Rattle.bats_tool.proofs.CommandSeeds.{source_seed}
 use Rattle.bats_tool.proofs.Endings.{source_ending-too_long}
 use Rattle.bats_tool.proofs.SentPackets.{Sends}

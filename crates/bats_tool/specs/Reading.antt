@@ -10,9 +10,9 @@ use Rattle.bats_model.specs.declared.read_end.HeaderField.{HeaderField}
 use Rattle.bats_model.specs.declared.read_end.HeaderField.TheVariants as fields
 use Rattle.bats_model.specs.declared.read_end.ReadEnd.{ReadEnd}
 use Rattle.bats_model.specs.declared.read_end.ReadEnd.TheVariants as ends
-use Rattle.bats_tool.specs.declared.status.Status.{Status}
-use Rattle.bats_tool.specs.declared.status.Status.TheVariants as statuses
-use Rattle.bats_tool.specs.Ending.{Ending}
+use Rattle.tool_run.specs.declared.status.Status.{Status}
+use Rattle.tool_run.specs.declared.status.Status.TheVariants as statuses
+use Rattle.tool_run.specs.Ending.{Ending, in_part}
 
 -- the whole input is these items of the session, or it is refused after them; with no session its first record is
 abbrev pub IsReading : List ℕ → Option SessionData → List Item → Option ReadEnd → Type 0
@@ -58,4 +58,4 @@ refusal_status _ = statuses.Input
 
 -- how a run ends whose input is refused, after this output
 abbrev pub refused_ending : List ℕ → ReadEnd → Ending
-refused_ending output end = record { status = refusal_status end; output = output; line = refusal_line end }
+refused_ending output end = record { status = refusal_status end; output = output; line = refusal_line end; reach = in_part }

@@ -16,8 +16,8 @@ use Rattle.bats_format.specs.Reader.{ReaderData, IsOpen}
 use Rattle.bats_decode.specs.Decoder as decoder_specs
 use Rattle.bats_decode.specs.Decoder.{DecoderData}
 use Rattle.bats_tool.specs.Reading.{IsReading}
-use Rattle.bats_tool.specs.Sink.{ArePlain}
-use Rattle.bats_tool.specs.Commands.{ReadsRecords}
+use Rattle.bats_tool.specs.Sink.{ArePlain, takes_plain}
+use Rattle.bats_tool.specs.ReadsRecords.{ReadsRecords}
 use Rattle.bats_tool.specs.declared.receive.Halt.{Halt}
 use Rattle.bats_tool.specs.declared.receive.Halt.TheVariants as halts
 
@@ -42,7 +42,7 @@ pub record HasReceivedAll (start now : InputState) (decoder : DecoderData) : Typ
   pub file : IsPacketFile decoder.session list bytes
   pub decoder_stands : decoder_specs.StandsFor (packets_of list) decoder
   pub plain : All (IsPlain decoder.session) (packets_of list)
-  pub reads : ReadsRecords true start.left now.left
+  pub reads : ReadsRecords takes_plain start.left now.left
   pub no_fault : now.faults ≡ start.faults
 
 -- the input is refused, after plain packets alone
@@ -53,7 +53,7 @@ pub record IsRefusedAfter (start now : InputState) (end : ReadEnd) : Type 0 wher
   pub told : IsTold start.left input
   pub reading : IsReading input session list (Some end)
   pub plain : ArePlain session list
-  pub reads : ReadsRecords true start.left now.left
+  pub reads : ReadsRecords takes_plain start.left now.left
   pub no_fault : now.faults ≡ start.faults
 
 -- the first packet that isn't plain came
@@ -69,13 +69,13 @@ pub record MeetsNotPlain (start now : InputState) : Type 0 where
   pub is_front : HasFront input session (list ++ items.Packet at packet ∷ []) front rest
   pub plain : ArePlain (Some session) list
   pub not_plain : ¬ IsPlain session packet
-  pub reads : ReadsRecords true start.left now.left
+  pub reads : ReadsRecords takes_plain start.left now.left
   pub no_fault : now.faults ≡ start.faults
 
 -- why the receiving halts
 abbrev pub Halts : InputState → InputState → Halt → Type 0
-Halts start now (halts.Input ends.Memory) = (now.faults ≡ start.faults) × ReadsRecords true start.left now.left
-Halts start now (halts.Input ends.ReadFault) = Rose start.faults now.faults × ReadsRecords true start.left now.left
+Halts start now (halts.Input ends.Memory) = (now.faults ≡ start.faults) × ReadsRecords takes_plain start.left now.left
+Halts start now (halts.Input ends.ReadFault) = Rose start.faults now.faults × ReadsRecords takes_plain start.left now.left
 Halts start now (halts.Input end) = IsRefusedAfter start now end
 Halts start now halts.NotPlain = MeetsNotPlain start now
 

@@ -1,18 +1,16 @@
--- How a run ends whose input is refused, before its output is flushed.
+-- How a run ends whose input is refused.
 use Rattle.std.specs.Prelude.{◌≡◌, string_bytes, Result, Ok, Err}
-use Rattle.bats_io.specs.Streams.{OutputState}
 use Rattle.bats_model.specs.declared.read_end.ReadEnd.{ReadEnd}
 use Rattle.bats_model.specs.declared.read_end.ReadEnd.TheVariants as ends
-use Rattle.bats_tool.specs.declared.finish.Finish.{Finish}
+use Rattle.tool_run.specs.declared.finish.Finish.{Finish}
 use Rattle.bats_tool.specs.declared.receive.Halt.{Halt}
 use Rattle.bats_tool.specs.declared.receive.Halt.TheVariants as halts
-use Rattle.bats_tool.specs.declared.status.Status.TheVariants as statuses
-use Rattle.bats_tool.specs.declared.stop.Stop.{Stop}
-use Rattle.bats_tool.specs.declared.stop.Stop.TheVariants as stops
+use Rattle.tool_run.specs.declared.status.Status.TheVariants as statuses
+use Rattle.tool_run.specs.declared.stop.Stop.{Stop}
+use Rattle.tool_run.specs.declared.stop.Stop.TheVariants as stops
 use Rattle.bats_tool.specs.Reading.{refusal_line, refusal_status}
 use Rattle.bats_tool.specs.Sink.{not_built_line}
-use Rattle.bats_tool.specs.Attempt.{IsOfEnding}
-use Rattle.bats_tool.specs.Writes.{IsFlushed, IsNotFlushed}
+use Rattle.tool_run.specs.Attempt.{IsOfEnding}
 
 -- what a refusal of the input makes of the run: its status and its notes line, where no call failed
 pub record IsFinishOf (end : ReadEnd) (finish : Finish) : Type 0 where
@@ -34,16 +32,3 @@ abbrev pub HaltsAs : Halt → Result Finish Stop → Type 0
 HaltsAs (halts.Input end) result = EndsAs end result
 HaltsAs halts.NotPlain (Ok finish) = IsNotBuilt finish
 HaltsAs halts.NotPlain (Err stop) = stop ≡ stops.Memory
-
--- the output was flushed and nothing written, and the run ends as the halt says
-pub record EndsFlushed (halt : Halt) (before after : OutputState) (finish : Finish) : Type 0 where
-  pub ends : HaltsAs halt (Ok finish)
-  pub flushed : IsFlushed before after
-
-abbrev pub EndsHaltedAs : Halt → OutputState → OutputState → Result Finish Stop → Type 0
-EndsHaltedAs halt before after (Ok finish) = EndsFlushed halt before after finish
-EndsHaltedAs halt before after (Err stops.WriteFault) = IsNotFlushed before after × ((finish : Finish) × HaltsAs halt (Ok finish))
-EndsHaltedAs halt before after (Err stop) = (after ≡ before) × HaltsAs halt (Err stop)
-
-pub record EndsHalted (halt : Halt) (before after : OutputState) (result : Result Finish Stop) : Type 0 where
-  pub as_far : EndsHaltedAs halt before after result

@@ -1,5 +1,5 @@
--- What `show` writes, and how it ends on an input.
-use Rattle.std.specs.Prelude.{ℕ, ◌≡◌, ◌-◌, List, [], ◌++◌, length, flat_map, codes, Option, Some, None, if◌then◌else◌}
+-- What `show` writes, how it ends on an input, and what it promises.
+use Rattle.std.specs.Prelude.{ℕ, ◌≡◌, ◌-◌, ◌⊎◌, List, [], ◌++◌, length, flat_map, codes, Option, Some, None, if◌then◌else◌}
 use Rattle.std.specs.Fmt.{decimal}
 use Rattle.hex.specs.Hex.{encode_lower}
 use Rattle.bats_model.specs.Session.{SessionData, symbols_of}
@@ -8,9 +8,12 @@ use Rattle.bats_model.specs.declared.packet.Packet.{Packet}
 use Rattle.bats_model.specs.declared.item.Item.{Item}
 use Rattle.bats_model.specs.declared.item.Item.TheVariants as items
 use Rattle.bats_model.specs.declared.read_end.ReadEnd.{ReadEnd}
-use Rattle.bats_tool.specs.declared.status.Status.TheVariants as statuses
-use Rattle.bats_tool.specs.Ending.{Ending}
+use Rattle.tool_run.specs.declared.status.Status.TheVariants as statuses
+use Rattle.bats_model.specs.Refusal.{HasFront}
+use Rattle.tool_run.specs.Ending.{Ending, to_end}
+use Rattle.tool_run.specs.Promise.{Promise, IsFrontOf}
 use Rattle.bats_tool.specs.Reading.{IsReading, refused_ending}
+use Rattle.bats_tool.specs.ReadsRecords.{ReadsRecords}
 
 -- the line of a header record
 unfoldable pub header_line : SessionData → ℕ → List ℕ
@@ -50,6 +53,7 @@ show_ending session list None = record {
   status = statuses.Done;
   output = lines_read session list;
   line = show_line (length list - length (packets_of list)) (length (packets_of list));
+  reach = to_end;
 }
 show_ending session list (Some end) = refused_ending (lines_read session list) end
 
@@ -60,3 +64,34 @@ pub record IsShowEnding (input : List ℕ) (ending : Ending) : Type 0 where
   pub end : Option ReadEnd
   pub reading : IsReading input session list end
   pub ending_is : ending ≡ show_ending session list end
+
+-- `show` reads on after any items
+abbrev pub takes_all : SessionData → List Item → Type 0
+takes_all session list = Unit {0}
+
+-- the bytes are a front of the lines of the items that the input begins with
+pub record IsFrontOfLines (input : List ℕ) (part : List ℕ) : Type 0 where
+  pub session : SessionData
+  pub list : List Item
+  pub before : List ℕ
+  pub after : List ℕ
+  pub is_front : HasFront input session list before after
+  pub front : IsFrontOf part (item_lines session list)
+
+-- nothing was written, or a front of the lines of an input that may not have been read to its end
+abbrev pub AreLinesBegun : List ℕ → List ℕ → Type 0
+AreLinesBegun input part = (part ≡ []) ⊎ IsFrontOfLines input part
+
+-- the bytes are the lines of the records that were read
+pub record AreLinesRead (before after : Option (List ℕ)) (part : List ℕ) : Type 0 where
+  pub reads : ReadsRecords takes_all before after
+  pub lines : part ≡ lines_read reads.session reads.list
+
+-- what `show` promises: it reads a packet file record by record, and writes as it reads
+abbrev pub show_promise : Promise
+show_promise = record {
+  ends = IsShowEnding;
+  reads = ReadsRecords takes_all;
+  partly = AreLinesBegun;
+  partly_read = AreLinesRead;
+}

@@ -1,4 +1,4 @@
--- How `sink` ends on an input.
+-- How `sink` ends on an input, and what it promises.
 use Rattle.std.specs.Prelude.{ℕ, ◌≡◌, ◌⊎◌, Bool, List, [], ◌∷◌, ◌++◌, All, length, codes, Option, Some, None, if◌then◌else◌}
 use Rattle.std.specs.Fmt.{decimal}
 use Rattle.bats_model.specs.Session.{SessionData}
@@ -13,10 +13,12 @@ use Rattle.bats_model.specs.declared.item.Item.TheVariants as items
 use Rattle.bats_model.specs.declared.answer.Answer.{Answer}
 use Rattle.bats_model.specs.declared.answer.Answer.TheVariants.{File, Inconsistent, NeedMore}
 use Rattle.bats_model.specs.declared.read_end.ReadEnd.{ReadEnd}
-use Rattle.bats_tool.specs.declared.status.Status.{Status}
-use Rattle.bats_tool.specs.declared.status.Status.TheVariants as statuses
-use Rattle.bats_tool.specs.Ending.{Ending}
+use Rattle.tool_run.specs.declared.status.Status.{Status}
+use Rattle.tool_run.specs.declared.status.Status.TheVariants as statuses
+use Rattle.tool_run.specs.Ending.{Ending, refusal, in_part, to_end}
+use Rattle.tool_run.specs.Promise.{Promise, IsBegun}
 use Rattle.bats_tool.specs.Reading.{IsReading, refused_ending}
+use Rattle.bats_tool.specs.ReadsRecords.{ReadsRecords}
 
 -- each packet among the items is plain
 abbrev pub ArePlain : Option SessionData → List Item → Type 0
@@ -60,6 +62,7 @@ answer_ending both packets answer = record {
   status = answer_status answer;
   output = answer_output both answer;
   line = answer_line (length packets) (kept_count packets) answer;
+  reach = to_end;
 }
 
 -- the whole input is a packet file of plain packets: the ending is that of a right answer to them
@@ -85,6 +88,9 @@ pub record SinkRefuses (input : List ℕ) (ending : Ending) : Type 0 where
 abbrev pub not_built_line : List ℕ
 not_built_line = codes "bats: not built\n"
 
+abbrev pub not_built_ending : Ending
+not_built_ending = refusal statuses.NotBuilt not_built_line in_part
+
 -- the first packet that isn't plain comes, in a whole record: this is not built yet
 pub record SinkIsNotBuilt (input : List ℕ) (ending : Ending) : Type 0 where
   pub session : SessionData
@@ -96,8 +102,22 @@ pub record SinkIsNotBuilt (input : List ℕ) (ending : Ending) : Type 0 where
   pub is_front : HasFront input session (list ++ items.Packet at packet ∷ []) front rest
   pub plain : ArePlain (Some session) list
   pub not_plain : ¬ IsPlain session packet
-  pub ending_is : ending ≡ record { status = statuses.NotBuilt; output = []; line = not_built_line }
+  pub ending_is : ending ≡ not_built_ending
 
 -- how `sink` ends where memory is found and no read, write or flush fails
 abbrev pub IsSinkEnding : Bool → List ℕ → Ending → Type 0
 IsSinkEnding both input ending = SinkAnswers both input ending ⊎ (SinkRefuses input ending ⊎ SinkIsNotBuilt input ending)
+
+-- a sink reads on after plain packets alone
+abbrev pub takes_plain : SessionData → List Item → Type 0
+takes_plain session list = ArePlain (Some session) list
+
+-- what `sink` promises: it reads a packet file record by record, no further than the first packet that isn't plain, and
+-- then writes
+abbrev pub sink_promise : Bool → Promise
+sink_promise both = record {
+  ends = IsSinkEnding both;
+  reads = ReadsRecords takes_plain;
+  partly = IsBegun (IsSinkEnding both);
+  partly_read = λ before after part. part ≡ [];
+}

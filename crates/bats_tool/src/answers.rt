@@ -2,14 +2,12 @@
 ghost use Rattle.std.specs.Prelude.{◌≡◌, ◌++◌, List, [], string_bytes, IfOk, if◌then◌else◌};
 ghost use Rattle.std.specs.Result.{result_err};
 ghost use Rattle.bats_tool.specs.Sink.{file_line, inconsistent_line, need_more_line, answer_line, answer_output, answer_status};
-ghost use Rattle.bats_tool.specs.Writes.{Writes};
+ghost use Rattle.tool_run.specs.Writes.{Writes};
 
-use crate::records::write_bytes;
-use crate::status::Status;
-use crate::stop::Stop;
 use bats_io::Sink;
 use bats_model::Answer;
 use std::alloc::{AllocError, Global};
+use tool_run::{Status, Stop, write_bytes};
 
 // The notes line of a file that was found, for so many packets received and kept.
 fn file_text(alloc: Global, length: u64, packets: u64, kept: u32) -> Result<String, AllocError>
@@ -66,7 +64,7 @@ pub fn status_of_answer(answer: &Answer) -> Status
 
 // Writes two files, one after the other.
 fn write_both<O: Sink>(output: &mut O, first: &[u8], second: &[u8]) -> Result<(), Stop>
-    ensures { Writes (O.state output.old).written (O.state output.new).written (O.state output.old).faults (O.state output.new).faults
+    ensures { Writes (O.state output.old) (O.state output.new)
         (first.now ++ second.now) (result_err result) }
 {
     write_bytes(output, first)?;
@@ -75,7 +73,7 @@ fn write_both<O: Sink>(output: &mut O, first: &[u8], second: &[u8]) -> Result<()
 
 // Writes two files where both are asked for.
 fn write_pair<O: Sink>(output: &mut O, both: bool, first: &[u8], second: &[u8]) -> Result<(), Stop>
-    ensures { Writes (O.state output.old).written (O.state output.new).written (O.state output.old).faults (O.state output.new).faults
+    ensures { Writes (O.state output.old) (O.state output.new)
         (if both then (first.now ++ second.now) else []) (result_err result) }
 {
     if both {
@@ -86,7 +84,7 @@ fn write_pair<O: Sink>(output: &mut O, both: bool, first: &[u8], second: &[u8]) 
 
 /// Writes what an answer gives: the file, or both files where they are asked for, or nothing.
 pub fn write_answer<O: Sink>(output: &mut O, both: bool, answer: &Answer) -> Result<(), Stop>
-    ensures { Writes (O.state output.old).written (O.state output.new).written (O.state output.old).faults (O.state output.new).faults
+    ensures { Writes (O.state output.old) (O.state output.new)
         (answer_output both answer.now) (result_err result) }
 {
     match answer {

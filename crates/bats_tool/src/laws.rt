@@ -9,14 +9,16 @@ ghost use Rattle.bats_model.specs.PacketFile.{IsPacketFile, packets_of};
 ghost use Rattle.bats_model.specs.Agreement.{AgreesWithAll};
 ghost use Rattle.bats_model.specs.RightAnswer.{IsOnlyFile};
 ghost use Rattle.bats_model.specs.declared.item.Item.{Item};
-ghost use Rattle.bats_tool.specs.declared.command.Command.{Command};
-ghost use Rattle.bats_tool.specs.declared.command.Command.TheVariants as commands;
-ghost use Rattle.bats_tool.specs.declared.status.Status.TheVariants as statuses;
-ghost use Rattle.bats_tool.specs.declared.source.SourceOptions.{SourceOptions};
-ghost use Rattle.bats_tool.specs.Options.{HasRanges, session_for};
-ghost use Rattle.bats_tool.specs.Words.{command_of};
-ghost use Rattle.bats_tool.specs.Ending.{Ending, source_ending};
-ghost use Rattle.bats_tool.specs.Commands.{IsEnding};
+ghost use Rattle.bats_words.specs.declared.command.Command.{Command};
+ghost use Rattle.bats_words.specs.declared.command.Command.TheVariants as commands;
+ghost use Rattle.tool_run.specs.declared.status.Status.TheVariants as statuses;
+ghost use Rattle.bats_words.specs.declared.source_options.SourceOptions.{SourceOptions};
+ghost use Rattle.bats_words.specs.Options.{HasRanges};
+ghost use Rattle.bats_tool.specs.FileSession.{session_for};
+ghost use Rattle.bats_words.specs.Words.{command_of};
+ghost use Rattle.tool_run.specs.Ending.{Ending};
+ghost use Rattle.bats_tool.specs.Source.{source_ending};
+ghost use Rattle.bats_tool.specs.Promises.{IsEnding};
 
 /// The endings that words and input allow have one status and one notes line, and one output, but for need-more, where
 /// two agreeing files are free.

@@ -2,33 +2,25 @@
 #![tactic(auto)]
 
 ghost use Rattle.std.specs.Prelude.{◌≡◌, ◌<◌, map, string_bytes};
-ghost use Rattle.bats_tool.specs.Words.{command_of};
-ghost use Rattle.bats_tool.specs.Run.{IsRun};
+ghost use Rattle.bats_words.specs.Words.{command_of};
+ghost use Rattle.bats_tool.specs.Promises.{promise_of};
+ghost use Rattle.tool_run.specs.Run.{RunsBy};
 
 mod answers;
-mod command;
-mod finish;
 mod laws;
-mod read;
 mod receive;
 mod records;
 mod refusals;
-mod refuse;
-mod report;
 mod run;
 mod show;
 mod sink;
 mod source;
-mod status;
-mod stop;
 #[cfg(test)]
 mod tests;
-mod words;
 
 use bats_io::{Sink, Source, StdSink, StdSource};
 use gf_rows::Steps;
 use run::run;
-use status::Status;
 use std::alloc::Global;
 use std::io::{BufReader, BufWriter, Read, Write};
 use std::marker::Brand;
@@ -37,6 +29,7 @@ use std::rt::Env;
 use std::sync::ledger::{Blank, Ledger};
 use std::thread::Threads;
 use std::{env, io};
+use tool_run::Status;
 
 // Bytes of the buffer for the standard input.
 const INPUT_BUFFER: usize = 65536;
@@ -57,7 +50,7 @@ fn run_counted<R: Threads + Sync, S: Source, O: Sink, N: Sink, C: Ledger, L: Led
     requires name { counters.1.name ≡ L.name }
     requires parts { counters.1.parts ≡ L.parts }
     requires some { 0 < counters.1.parts }
-    ensures { IsRun (command_of (map string_bytes words.now.items))
+    ensures { RunsBy (promise_of (command_of (map string_bytes words.now.items)))
         (record { input = S.state input.old; output = O.state output.old; notes = N.state notes.old })
         (record { input = S.state input.new; output = O.state output.new; notes = N.state notes.new })
         result }
@@ -86,7 +79,7 @@ fn run_over<R: Threads + Sync, S: Source, O: Sink, N: Sink>(
     output: &mut O,
     notes: &mut N,
 ) -> Status
-    ensures { IsRun (command_of (map string_bytes words.now.items))
+    ensures { RunsBy (promise_of (command_of (map string_bytes words.now.items)))
         (record { input = S.state input.old; output = O.state output.old; notes = N.state notes.old })
         (record { input = S.state input.new; output = O.state output.new; notes = N.state notes.new })
         result }

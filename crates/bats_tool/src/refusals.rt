@@ -2,14 +2,10 @@
 ghost use Rattle.std.specs.Prelude.{◌≡◌, ◌++◌, string_bytes, codes, IfOk};
 ghost use Rattle.bats_tool.specs.Reading.{field_word, tag_word, place_line, refusal_line, refusal_status};
 ghost use Rattle.bats_tool.specs.Refused.{EndsAs};
-ghost use Rattle.bats_tool.specs.Writes.{Flushes};
 
-use crate::finish::Finish;
-use crate::status::Status;
-use crate::stop::Stop;
-use bats_io::Sink;
 use bats_model::{HeaderField, ReadEnd};
 use std::alloc::{AllocError, Global};
+use tool_run::{Finish, Status, Stop};
 
 // The word of a header's field.
 fn field_text(field: HeaderField) -> &'static str
@@ -77,7 +73,7 @@ fn status_of_refusal(end: ReadEnd) -> Status
     }
 }
 
-/// How a run ends whose reading ended so, once its output is flushed.
+/// How a run ends whose reading ended so.
 pub fn refused(alloc: Global, end: ReadEnd) -> Result<Finish, Stop>
     ensures { EndsAs end result }
 {
@@ -88,18 +84,5 @@ pub fn refused(alloc: Global, end: ReadEnd) -> Result<Finish, Stop>
             status: status_of_refusal(end),
             line: refusal_text(alloc, end)?,
         }),
-    }
-}
-
-/// Flushes the output.
-pub fn flush<O: Sink>(output: &mut O) -> Result<(), Stop>
-    ensures { Flushes
-        (O.state output.old)
-        (O.state output.new)
-        result }
-{
-    match output.flush() {
-        Ok(()) => Ok(()),
-        Err(_) => Err(Stop::WriteFault),
     }
 }

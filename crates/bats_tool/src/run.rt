@@ -1,23 +1,28 @@
 ghost use Rattle.std.specs.Prelude.{map, string_bytes};
-ghost use Rattle.bats_tool.specs.Words.{command_of};
-ghost use Rattle.bats_tool.specs.Run.{IsRun};
-ghost use Rattle.bats_tool.specs.Attempt.{Attempts};
+ghost use Rattle.tool_run.specs.Attempt.{Attempts};
+ghost use Rattle.tool_run.specs.Promise.{reads_nothing};
+ghost use Rattle.tool_run.specs.Run.{RunsBy};
+ghost use Rattle.tool_run.specs.Streams.{Ends};
+ghost use Rattle.bats_words.specs.Words.{command_of};
+ghost use Rattle.bats_tool.specs.Promises.{promise_of, usage_ending};
 
-use crate::command::Command;
-use crate::finish::Finish;
-use crate::refuse::refuse;
-use crate::report::report;
 use crate::show::show;
 use crate::sink::sink;
-use crate::source::{SourceOptions, source};
-use crate::status::Status;
-use crate::stop::Stop;
-use crate::words::parse;
+use crate::source::source;
 use bats_io::{Sink, Source};
+use bats_words::{Command, SourceOptions, parse};
 use gf_rows::Steps;
 use std::alloc::Global;
 use std::sync::ledger::Ledger;
 use std::thread::Threads;
+use tool_run::{Finish, Status, Stop, conclude, refuse};
+
+// How words end that are no command: nothing is read or written.
+fn usage(alloc: Global) -> Result<Finish, Stop>
+    ensures { (ends : Ends) → Attempts (reads_nothing usage_ending) ends ends result }
+{
+    Ok(refuse(alloc, Status::Usage, "bats: usage\n")?)
+}
 
 // Does what the words ask for, up to the notes line.
 fn attempt<R: Threads + Sync, S: Source, O: Sink, C: Ledger, L: Ledger>(
@@ -29,7 +34,7 @@ fn attempt<R: Threads + Sync, S: Source, O: Sink, C: Ledger, L: Ledger>(
     coef_steps: &mut Steps<C>,
     steps: &mut Steps<L>,
 ) -> Result<Finish, Stop>
-    ensures { Attempts (command_of (map string_bytes words.now.items))
+    ensures { Attempts (promise_of (command_of (map string_bytes words.now.items)))
         (record { input = S.state input.old; output = O.state output.old })
         (record { input = S.state input.new; output = O.state output.new })
         result }
@@ -61,7 +66,7 @@ fn attempt<R: Threads + Sync, S: Source, O: Sink, C: Ledger, L: Ledger>(
             rt, alloc, workers, both, input, output, coef_steps, steps,
         ),
         Some(Command::Show) => show(alloc, input, output),
-        None => Err(Stop::Usage),
+        None => usage(alloc),
     }
 }
 
@@ -76,13 +81,11 @@ pub fn run<R: Threads + Sync, S: Source, O: Sink, N: Sink, C: Ledger, L: Ledger>
     coef_steps: &mut Steps<C>,
     steps: &mut Steps<L>,
 ) -> Status
-    ensures { IsRun (command_of (map string_bytes words.now.items))
+    ensures { RunsBy (promise_of (command_of (map string_bytes words.now.items)))
         (record { input = S.state input.old; output = O.state output.old; notes = N.state notes.old })
         (record { input = S.state input.new; output = O.state output.new; notes = N.state notes.new })
         result }
 {
-    match attempt(rt, alloc, words, input, output, coef_steps, steps) {
-        Ok(finish) => report(notes, finish.line.as_bytes(), finish.status),
-        Err(stop) => refuse(output, notes, stop),
-    }
+    let ending = attempt(rt, alloc, words, input, output, coef_steps, steps);
+    conclude(output, notes, ending)
 }

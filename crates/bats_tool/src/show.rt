@@ -2,23 +2,19 @@ ghost use Rattle.std.specs.Prelude.{◌≡◌, ◌+◌, ◌-◌, ◌≤◌, ◌<
 ghost use Rattle.std.specs.Result.{result_err};
 ghost use Rattle.bats_model.specs.PacketFile.{most_records, packets_of};
 ghost use Rattle.bats_model.specs.Session.{SessionData};
-ghost use Rattle.bats_tool.specs.declared.command.Command.TheVariants as commands;
-ghost use Rattle.bats_tool.specs.declared.status.Status.TheVariants as statuses;
-ghost use Rattle.bats_tool.specs.Attempt.{Attempts};
-ghost use Rattle.bats_tool.specs.Show.{header_line, packet_line, item_line, show_line};
-ghost use Rattle.bats_tool.specs.Showing.{HasShown, Shows, StepsTo, sizes_part, header_rest};
-ghost use Rattle.bats_tool.specs.Streams.{Ends};
-ghost use Rattle.bats_tool.specs.Writes.{Writes};
+ghost use Rattle.tool_run.specs.declared.status.Status.TheVariants as statuses;
+ghost use Rattle.tool_run.specs.Attempt.{Attempts};
+ghost use Rattle.bats_tool.specs.Show.{header_line, packet_line, item_line, show_line, show_promise};
+ghost use Rattle.bats_tool.specs.Showing.{HasShown, StepsTo, sizes_part, header_rest};
+ghost use Rattle.tool_run.specs.Streams.{Ends};
+ghost use Rattle.tool_run.specs.Writes.{Writes};
 
-use crate::finish::Finish;
-use crate::records::write_bytes;
-use crate::refusals::{flush, refused};
-use crate::status::Status;
-use crate::stop::Stop;
+use crate::refusals::refused;
 use bats_format::Reader;
 use bats_io::{Sink, Source};
 use bats_model::{Item, Packet, Session};
 use std::alloc::{AllocError, Global};
+use tool_run::{Finish, Status, Stop, write_bytes};
 
 // How many headers and how many packets were shown.
 #[derive(Debug, Drop)]
@@ -127,7 +123,7 @@ fn write_item<O: Sink>(
     output: &mut O,
     item: &Item,
 ) -> Result<(), Stop>
-    ensures { Writes (O.state output.old).written (O.state output.new).written (O.state output.old).faults (O.state output.new).faults
+    ensures { Writes (O.state output.old) (O.state output.new)
         (item_line session.now item.now) (result_err result) }
 {
     let line = item_text(alloc, session, item)?;
@@ -143,7 +139,7 @@ fn show_item<O: Sink>(
 ) -> Result<(), Stop>
     requires { IsSome reader.now.session }
     ensures { (session : SessionData) → reader.now.session ≡ Some session
-        → Writes (O.state output.old).written (O.state output.new).written (O.state output.old).faults (O.state output.new).faults
+        → Writes (O.state output.old) (O.state output.new)
         (item_line session item.now) (result_err result) }
 {
     match reader.session() {
@@ -202,13 +198,13 @@ fn show_next<S: Source, O: Sink>(
     }
 }
 
-// Shows the records of the input. The answer is how the run ends once the output is flushed.
-fn show_records<S: Source, O: Sink>(
+/// Does `show`: writes a line for each record of the input as it is read.
+pub fn show<S: Source, O: Sink>(
     alloc: Global,
     input: &mut S,
     output: &mut O,
 ) -> Result<Finish, Stop>
-    ensures { Shows
+    ensures { Attempts show_promise
         (record { input = S.state input.old; output = O.state output.old })
         (record { input = S.state input.new; output = O.state output.new })
         result }
@@ -223,20 +219,4 @@ fn show_records<S: Source, O: Sink>(
             return Ok(finish);
         }
     }
-}
-
-/// Does `show`: writes a line for each record of the input as it is read, and flushes the output.
-pub fn show<S: Source, O: Sink>(
-    alloc: Global,
-    input: &mut S,
-    output: &mut O,
-) -> Result<Finish, Stop>
-    ensures { Attempts (Some commands.Show)
-        (record { input = S.state input.old; output = O.state output.old })
-        (record { input = S.state input.new; output = O.state output.new })
-        result }
-{
-    let finish = show_records(alloc, input, output)?;
-    flush(output)?;
-    Ok(finish)
 }

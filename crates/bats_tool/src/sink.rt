@@ -1,22 +1,16 @@
 //! The command `sink`.
-ghost use Rattle.std.specs.Prelude.{◌≡◌, List, Some, true, string_bytes, IfOk, OnOk};
-ghost use Rattle.std.specs.Result.{result_err};
+ghost use Rattle.std.specs.Prelude.{◌≡◌, List, string_bytes, IfOk};
 ghost use Rattle.bats_model.specs.declared.packet.Packet.{Packet};
 ghost use Rattle.bats_decode.specs.Decoder.{StandsFor};
-ghost use Rattle.bats_tool.specs.declared.command.Command.TheVariants as commands;
-ghost use Rattle.bats_tool.specs.Attempt.{Attempts};
+ghost use Rattle.tool_run.specs.Attempt.{Attempts};
 ghost use Rattle.bats_tool.specs.Answering.{AnswersAs};
-ghost use Rattle.bats_tool.specs.Options.{HasWorkers};
-ghost use Rattle.bats_tool.specs.Sink.{answer_line, answer_output, answer_status};
-ghost use Rattle.bats_tool.specs.Writes.{Writes};
-ghost use Rattle.bats_tool.specs.Refused.{HaltsAs, EndsHalted};
+ghost use Rattle.bats_words.specs.Options.{HasWorkers};
+ghost use Rattle.bats_tool.specs.Sink.{answer_line, answer_status, sink_promise};
+ghost use Rattle.bats_tool.specs.Refused.{HaltsAs};
 
 use crate::answers::{answer_text, status_of_answer, write_answer};
-use crate::finish::Finish;
 use crate::receive::{Halt, receive};
-use crate::refusals::{flush, refused};
-use crate::status::Status;
-use crate::stop::Stop;
+use crate::refusals::refused;
 use bats_decode::{Decoder, Solved};
 use bats_io::{Sink, Source};
 use bats_model::Answer;
@@ -24,6 +18,7 @@ use gf_rows::Steps;
 use std::alloc::{AllocError, Global};
 use std::sync::ledger::Ledger;
 use std::thread::Threads;
+use tool_run::{Finish, Status, Stop, refuse};
 
 // How the run ends that found this answer.
 fn finish_of(alloc: Global, solved: &Solved) -> Result<Finish, AllocError>
@@ -35,16 +30,6 @@ fn finish_of(alloc: Global, solved: &Solved) -> Result<Finish, AllocError>
         status: status_of_answer(&solved.answer),
         line,
     })
-}
-
-// Writes what an answer gives, and flushes the output.
-fn send_answer<O: Sink>(output: &mut O, both: bool, answer: &Answer) -> Result<(), Stop>
-    ensures written { Writes (O.state output.old).written (O.state output.new).written (O.state output.old).faults (O.state output.new).faults
-        (answer_output both answer.now) (result_err result) }
-    ensures flushed { OnOk result ((O.state output.new).flushed ≡ true) }
-{
-    write_answer(output, both, answer)?;
-    flush(output)
 }
 
 // Solves for the file of the packets that were received, and writes the answer.
@@ -66,33 +51,18 @@ fn answer<R: Threads + Sync, O: Sink, C: Ledger, L: Ledger>(
 {
     let solved = decoder.solve(rt, workers, coef_steps, steps)?;
     let finish = finish_of(alloc, &solved)?;
-    send_answer(output, both, &solved.answer)?;
+    write_answer(output, both, &solved.answer)?;
     Ok(finish)
 }
 
-// How the run ends whose receiving halts, once its output is flushed.
+// How the run ends whose receiving halts: nothing is written.
 fn finish_of_halt(alloc: Global, halt: Halt) -> Result<Finish, Stop>
     ensures { HaltsAs halt result }
 {
     match halt {
         Halt::Input(end) => refused(alloc, end),
-        Halt::NotPlain => Ok(Finish {
-            status: Status::NotBuilt,
-            line: String::from_str(alloc, "bats: not built\n")?,
-        }),
+        Halt::NotPlain => Ok(refuse(alloc, Status::NotBuilt, "bats: not built\n")?),
     }
-}
-
-// Ends the run whose receiving halts: nothing is written.
-fn end_halted<O: Sink>(alloc: Global, halt: Halt, output: &mut O) -> Result<Finish, Stop>
-    ensures { EndsHalted halt
-        (O.state output.old)
-        (O.state output.new)
-        result }
-{
-    let finish = finish_of_halt(alloc, halt)?;
-    flush(output)?;
-    Ok(finish)
 }
 
 /// Does `sink`: receives the packets of the input, and writes the file that they give, or says why there is none. The
@@ -108,13 +78,13 @@ pub fn sink<R: Threads + Sync, S: Source, O: Sink, C: Ledger, L: Ledger>(
     steps: &mut Steps<L>,
 ) -> Result<Finish, Stop>
     requires { HasWorkers workers }
-    ensures { Attempts (Some (commands.Sink workers both))
+    ensures { Attempts (sink_promise both)
         (record { input = S.state input.old; output = O.state output.old })
         (record { input = S.state input.new; output = O.state output.new })
         result }
 {
     match receive(alloc, input, coef_steps, steps) {
         Ok(decoder) => answer(rt, alloc, workers, both, decoder, output, coef_steps, steps),
-        Err(halt) => end_halted(alloc, halt, output),
+        Err(halt) => finish_of_halt(alloc, halt),
     }
 }

@@ -1,38 +1,28 @@
-ghost use Rattle.std.specs.Prelude.{◌≡◌, ◌+◌, ◌^◌, ◌<◌, ◌≤◌, string_bytes, true, Some, IfOk, OnOk, IfErr, OnErr};
+ghost use Rattle.std.specs.Prelude.{◌≡◌, ◌+◌, ◌*◌, ◌^◌, ◌<◌, ◌≤◌, ℕ, List, length, string_bytes, None, IfSome, IfOk};
 ghost use Rattle.std.specs.Result.{result_err};
 ghost use Rattle.bats_model.specs.Session.{symbols_of};
 ghost use Rattle.bats_model.specs.Batch.{batch_of};
-ghost use Rattle.bats_tool.specs.Source.{coded_record, batch_records, packet_records, source_output, source_line, counts_line};
-ghost use Rattle.bats_tool.specs.Options.{HasRanges, session_for};
-ghost use Rattle.bats_tool.specs.Writes.{Writes};
-ghost use Rattle.bats_tool.specs.Attempt.{Attempts, Prepares, source_command};
+ghost use Rattle.bats_tool.specs.Source.{coded_record, batch_records, packet_records, source_output, source_line, counts_line, source_promise};
+ghost use Rattle.bats_words.specs.Options.{HasRanges};
+ghost use Rattle.bats_tool.specs.FileSession.{session_for};
+ghost use Rattle.tool_run.specs.Writes.{Writes};
+ghost use Rattle.tool_run.specs.Attempt.{Attempts};
+ghost use Rattle.tool_run.specs.Reads.{ReadsUpTo};
+ghost use Rattle.bats_words.specs.declared.source_options.SourceOptions.{SourceOptions};
+ghost use Rattle.bats_tool.specs.Ready.{IsReady};
+ghost use Rattle.bats_io.specs.Streams.{InputState, OutputState};
 
-use crate::finish::Finish;
-use crate::read::read_file;
 use crate::records::{write_header, write_packet};
-use crate::status::Status;
-use crate::stop::Stop;
 use bats_encoder::Encoder;
 use bats_io::{Sink, Source};
 use bats_model::{Batch, Bytes, Session};
 use bats_sampler::batch;
+use bats_words::SourceOptions;
 use std::alloc::{AllocError, Global};
+use tool_run::{Finish, Status, Stop, read_file, refuse};
 
 // Symbols of a file, at most.
 const MAX_SYMBOLS: usize = 4096;
-
-/// What `source` is asked for: the packets of a batch, the bytes of a symbol, the number of the degree table,
-/// whether the first batches are systematic, the seed, the number of the first batch, and how many batches.
-#[derive(Clone, Copy, Debug, PartialEq, Eq)]
-pub struct SourceOptions {
-    pub m: u8,
-    pub t: u16,
-    pub table: u8,
-    pub systematic: bool,
-    pub seed: [u8; 16],
-    pub first: u32,
-    pub batches: u32,
-}
 
 // Writes the record of coded packet j of a batch.
 fn write_coded<O: Sink>(
@@ -45,7 +35,7 @@ fn write_coded<O: Sink>(
     requires session { encoder.now.session ≡ session.now }
     requires batch { batch.now ≡ batch_of encoder.now.session batch.now.number }
     requires column { j < encoder.now.session.m }
-    ensures { Writes (O.state output.old).written (O.state output.new).written (O.state output.old).faults (O.state output.new).faults
+    ensures { Writes (O.state output.old) (O.state output.new)
         (coded_record encoder.now.session encoder.now.file batch.now.number j) (result_err result) }
 {
     let packet = encoder.coded(batch, j)?;
@@ -61,7 +51,7 @@ fn write_batch<O: Sink>(
 ) -> Result<(), Stop>
     requires session { encoder.now.session ≡ session.now }
     requires batch { batch.now ≡ batch_of encoder.now.session batch.now.number }
-    ensures { Writes (O.state output.old).written (O.state output.new).written (O.state output.old).faults (O.state output.new).faults
+    ensures { Writes (O.state output.old) (O.state output.new)
         (batch_records encoder.now.session encoder.now.file batch.now.number) (result_err result) }
 {
     for j in 0..u32::from(session.m()) {
@@ -79,7 +69,7 @@ fn write_numbered<O: Sink>(
     number: u32,
 ) -> Result<(), Stop>
     requires session { encoder.now.session ≡ session.now }
-    ensures { Writes (O.state output.old).written (O.state output.new).written (O.state output.old).faults (O.state output.new).faults
+    ensures { Writes (O.state output.old) (O.state output.new)
         (batch_records encoder.now.session encoder.now.file number) (result_err result) }
 {
     let batch = batch(alloc, session, number)?;
@@ -97,7 +87,7 @@ fn write_batches<O: Sink>(
 ) -> Result<(), Stop>
     requires session { encoder.now.session ≡ session.now }
     requires count { first + batches < 2 ^ 32 }
-    ensures { Writes (O.state output.old).written (O.state output.new).written (O.state output.old).faults (O.state output.new).faults
+    ensures { Writes (O.state output.old) (O.state output.new)
         (packet_records encoder.now.session encoder.now.file first batches) (result_err result) }
 {
     for i in 0..batches {
@@ -106,7 +96,7 @@ fn write_batches<O: Sink>(
     Ok(())
 }
 
-// Writes the header and the records of the batches asked for, and flushes the output.
+// Writes the header and the records of the batches asked for.
 fn write_output<O: Sink>(
     alloc: Global,
     output: &mut O,
@@ -117,16 +107,11 @@ fn write_output<O: Sink>(
 ) -> Result<(), Stop>
     requires session { encoder.now.session ≡ session.now }
     requires count { first + batches < 2 ^ 32 }
-    ensures written { Writes (O.state output.old).written (O.state output.new).written (O.state output.old).faults (O.state output.new).faults
+    ensures { Writes (O.state output.old) (O.state output.new)
         (source_output encoder.now.session encoder.now.file first batches) (result_err result) }
-    ensures flushed { OnOk result ((O.state output.new).flushed ≡ true) }
 {
     write_header(output, session)?;
-    write_batches(alloc, output, session, encoder, first, batches)?;
-    match output.flush() {
-        Ok(()) => Ok(()),
-        Err(_) => Err(Stop::WriteFault),
-    }
+    write_batches(alloc, output, session, encoder, first, batches)
 }
 
 // The notes line with these numbers.
@@ -152,13 +137,12 @@ fn line_of_session(alloc: Global, session: &Session, batches: u32) -> Result<Str
     counts_text(alloc, session.length(), session.symbols(), batches, packets)
 }
 
-// The session of a file that was read, as far as it has one.
-fn session_of(options: &SourceOptions, length: usize) -> Result<Session, Stop>
+// The session of a file of this length, which has one where it isn't too long.
+fn session_of(options: &SourceOptions, length: usize) -> Option<Session>
     requires { HasRanges options.now }
-    ensures ok { IfOk result (λ session. session ≡ session_for options.now length) }
-    ensures within { OnOk result (symbols_of (session_for options.now length) ≤ 4096) }
-    ensures symbols { OnErr result (4096 < symbols_of (session_for options.now length)) }
-    ensures no_other { IfErr result (λ stop. stop ≡ Stop.Symbols) }
+    ensures some { IfSome result (λ session. session ≡ session_for options.now length) }
+    ensures within { IfSome result (λ session. symbols_of (session_for options.now length) ≤ 4096) }
+    ensures none { result ≡ None → 4096 < symbols_of (session_for options.now length) }
 {
     let length = length as u64;
     let SourceOptions {
@@ -170,42 +154,27 @@ fn session_of(options: &SourceOptions, length: usize) -> Result<Session, Stop>
         ..
     } = *options;
     match Session::new(m, t, length, table, systematic, seed) {
-        Ok(session) => Ok(session),
-        Err(_) => Err(Stop::Symbols),
+        Ok(session) => Some(session),
+        Err(_) => None,
     }
 }
 
-// The file and its session.
-fn read_session<S: Source>(
+// Sends the file of a session.
+fn send<O: Sink>(
     alloc: Global,
     options: &SourceOptions,
-    input: &mut S,
-) -> Result<(Session, Vec<u8>), Stop>
-    requires { HasRanges options.now }
-    ensures { Prepares options.now
-        (S.state input.old)
-        (S.state input.new)
-        result }
-{
-    let file = read_file(alloc, input, MAX_SYMBOLS * options.t as usize)?;
-    let session = session_of(options, file.len())?;
-    Ok((session, file))
-}
-
-/// Does `source`: the whole output is written and flushed.
-pub fn source<S: Source, O: Sink>(
-    alloc: Global,
-    options: &SourceOptions,
-    input: &mut S,
+    session: Session,
+    file: Vec<u8>,
     output: &mut O,
 ) -> Result<Finish, Stop>
-    requires { HasRanges options.now }
-    ensures { Attempts (Some (source_command options.now))
-        (record { input = S.state input.old; output = O.state output.old })
-        (record { input = S.state input.new; output = O.state output.new })
+    requires ranges { HasRanges options.now }
+    requires length { length file.items ≡ session.file_length }
+    ensures { (before after : InputState) → IsReady options.now before after session file.items
+        → Attempts (source_promise options.now)
+        (record { input = before; output = O.state output.old })
+        (record { input = after; output = O.state output.new })
         result }
 {
-    let (session, file) = read_session(alloc, options, input)?;
     let line = line_of_session(alloc, &session, options.batches)?;
     match Encoder::new(alloc, session, Bytes::from(file)) {
         Ok(encoder) => {
@@ -223,5 +192,38 @@ pub fn source<S: Source, O: Sink>(
             })
         }
         Err(_) => unreachable!(),
+    }
+}
+
+// How the run ends whose file has too many symbols: nothing is written.
+fn too_long(alloc: Global) -> Result<Finish, Stop>
+    ensures { (options : SourceOptions) (before after : InputState) (output : OutputState) (file : List ℕ)
+        → HasRanges options → ReadsUpTo before after (4096 * options.t) file
+        → 4096 < symbols_of (session_for options (length file))
+        → Attempts (source_promise options)
+        (record { input = before; output = output })
+        (record { input = after; output = output })
+        result }
+{
+    Ok(refuse(alloc, Status::Limit, "bats: limit symbols\n")?)
+}
+
+/// Does `source`: reads the file, and writes the packets of its batches.
+pub fn source<S: Source, O: Sink>(
+    alloc: Global,
+    options: &SourceOptions,
+    input: &mut S,
+    output: &mut O,
+) -> Result<Finish, Stop>
+    requires { HasRanges options.now }
+    ensures { Attempts (source_promise options.now)
+        (record { input = S.state input.old; output = O.state output.old })
+        (record { input = S.state input.new; output = O.state output.new })
+        result }
+{
+    let file = read_file(alloc, input, MAX_SYMBOLS * options.t as usize)?;
+    match session_of(options, file.len()) {
+        Some(session) => send(alloc, options, session, file, output),
+        None => too_long(alloc),
     }
 }

@@ -5,12 +5,12 @@ mod show;
 mod sink;
 
 use crate::run_over;
-use crate::status::Status;
 use bats_io::{MemSink, MemSource};
 use std::alloc::{AllocError, AllocGlobal, Global};
 use std::process::Abort;
 use std::test::Fail;
 use std::thread::Threads;
+use tool_run::Status;
 
 const SMALL: &str =
     "source --m 2 --t 2 --seed 00000000000000000000000000000000 --batches 1 --systematic";

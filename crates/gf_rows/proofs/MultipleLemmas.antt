@@ -1,5 +1,5 @@
 -- Sums of multiples of several rows.
-use Rattle.std.proofs.Common.{ℕ, zero, suc, ◌≡◌, ◌≤◌, ◌+◌, ◌-◌, ◌∙◌, List, [], ◌∷◌, ◌++◌, length, take, drop, map, bit_xor, sym, ap, refl, arith}
+use Rattle.std.proofs.Common.{ℕ, zero, suc, ◌≡◌, ◌-◌, ◌∙◌, List, [], ◌∷◌, length, take, drop, map, bit_xor, sym, ap, refl, arith}
 use Rattle.std.proofs.lemmas.List.{length-drop, take_all}
 use lib.Lanes.{zip2, chunk}
 use Rattle.gf_core.specs.Field.{gf_add, gf_mul}

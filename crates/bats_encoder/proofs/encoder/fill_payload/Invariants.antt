@@ -1,8 +1,5 @@
-use Rattle.std.proofs.Common.{◌≡◌, ℕ, ◌<◌, get_or}
-use Rattle.gf_core.specs.Field.{gf_sum}
-use Rattle.bats_model.specs.Coded.{coded_term}
+use Rattle.bats_encoder.specs.Terms.{HasTerms}
 use Rattle.bats_encoder.proofs.encoder.fill_payload.Given as goal
 
 abbrev pub invariant-loop-k : goal.invariant-loop-k
-invariant-loop-k l =
-    (c : ℕ) → c < l.session.t → get_or l.payload c 0 ≡ gf_sum l.k (coded_term l.session l.file l.batch l.j c)
+invariant-loop-k l = HasTerms l.payload l.session l.file l.batch l.j l.k

@@ -1,4 +1,4 @@
-use Rattle.bats_tool.proofs.Writing.{Writes-after}
+use Rattle.tool_run.proofs.Writing.{Writes-after}
 use Rattle.bats_tool.proofs.answers.write_both.Goals as goal
 
 pub returns : goal.returns

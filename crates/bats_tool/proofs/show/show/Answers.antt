@@ -1,12 +1,14 @@
-use Rattle.std.proofs.Common.{refl}
-use Rattle.bats_tool.proofs.ShowSteps.{Attempts-exit, Attempts-not_flushed}
+use Rattle.std.proofs.Common.{sym, ap}
+use Rattle.bats_format.specs.Reader.{ReaderData}
+use Rattle.bats_tool.proofs.ShowSteps.{HasShown-fresh, Attempts-finish}
 use Rattle.bats_tool.proofs.show.show.Goals as goal
 
-pub returns-in_err-flush : goal.returns-in_err-flush
-returns-in_err-flush g c =
-    Attempts-exit _ _ c.in_err-flush.field-0.0 c.from_residual-in_err-flush.result c.from_residual-in_err-flush.ensures.1
-    (Attempts-not_flushed
-    (record { input = g.S.Source.state c.args.input.now; output = g.O.Sink.state c.args.output.now })
-    (record { input = g.S.Source.state c.show_records.new.input; output = g.O.Sink.state c.show_records.new.output })
-    (record { input = g.S.Source.state c.show_records.new.input; output = g.O.Sink.state c.flush.new.output })
-    c.in_err-flush.field-0.0 c.in_ok-finish.finish.status _ c.in_ok-finish.ensures.as_far refl c.in_err-flush.ensures)
+pub loop-reader-init : goal.loop-reader-init
+loop-reader-init g c = record {
+  counted = sym (ap (λ (reader : ReaderData). reader.records) c.new-reader.ensures.fresh);
+  shown = HasShown-fresh _ c.new-reader.result c.new-reader.ensures.nothing_read c.new-reader.ensures.fresh;
+}
+
+pub returns-in-Some : goal.returns-in-Some
+returns-in-Some g c = Attempts-finish _ _ c.show_next.new.reader _ _ c.in_ok-finish.field-0 c.in-Some.finish c.in-Some.is
+    (c.in_ok-finish.ensures.shown _ c.loop-reader.invariant.shown)

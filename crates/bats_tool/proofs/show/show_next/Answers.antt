@@ -1,8 +1,8 @@
 use Rattle.std.proofs.Common.{refl}
 use Rattle.bats_format.specs.Reader.{GivesItem, GivesEnd}
-use Rattle.bats_tool.specs.declared.stop.Stop.TheVariants as stops
-use Rattle.bats_tool.specs.Streams.{Ends}
-use Rattle.bats_tool.proofs.ShowSteps.{HasShown-more, Attempts-item_cut, Attempts-memory, Attempts-refused, Reaches-end, Reaches-refused, StepsTo-exit}
+use Rattle.tool_run.specs.declared.stop.Stop.TheVariants as stops
+use Rattle.tool_run.specs.Streams.{Ends}
+use Rattle.bats_tool.proofs.ShowSteps.{HasShown-more, Attempts-item_cut, Attempts-memory, Attempts-refused, Attempts-end, Attempts-ended, StepsTo-exit}
 use Rattle.bats_tool.proofs.RecordsRead.{ReadsWithin-nothing}
 use Rattle.bats_tool.proofs.ReaderAnswers.{item_of, end_of}
 use Rattle.bats_tool.proofs.show.show_next.Goals as goal
@@ -45,7 +45,7 @@ returns-in_ok-done-in-Ok-None-clause-shown g c start shown =
     let given : GivesEnd before.input after.input c.args.reader.now c.next.new.self =
     end_of {y = before.input} {z = after.input} c.in-Ok-None.field-0-is c.in-Ok-None.ensures in
     record {
-      as_far = Reaches-end start before after c.args.reader.now c.next.new.self c.args.counts.now.headers c.args.counts.now.packets c.in_ok-done-in-Ok-None.field-0 shown given refl
+      as_far = Attempts-end start before after c.args.reader.now c.next.new.self c.args.counts.now.headers c.args.counts.now.packets c.in_ok-done-in-Ok-None.field-0 shown given refl
           c.in_ok-done-in-Ok-None.ensures.status c.in_ok-done-in-Ok-None.ensures.line;
     }
 
@@ -62,6 +62,6 @@ returns-in_ok-refused-in-Err-clause-shown g c start shown =
     let before : Ends = (record { input = g.S.Source.state c.args.input.now; output = g.O.Sink.state c.args.output.now }) in
     let after : Ends = (record { input = g.S.Source.state c.next.new.source; output = g.O.Sink.state c.args.output.now }) in
     record {
-      as_far = Reaches-refused start before after c.args.reader.now c.next.new.self c.args.counts.now.headers c.args.counts.now.packets c.in-Err.end c.in_ok-refused-in-Err.field-0 shown c.in-Err.ensures refl
+      as_far = Attempts-ended start before after c.args.reader.now c.next.new.self c.args.counts.now.headers c.args.counts.now.packets c.in-Err.end c.in_ok-refused-in-Err.field-0 shown c.in-Err.ensures refl
           c.in_ok-refused-in-Err.ensures;
     }

@@ -11,8 +11,8 @@ too_long bad.SymbolSize P m t table long = absurd (t refl)
 too_long bad.Table P m t table long = absurd (table refl)
 too_long (bad.TooLong n) P m t table long = long n refl
 
-pub returns-in-Err-clause-symbols : goal.returns-in-Err-clause-symbols
-returns-in-Err-clause-symbols c =
+pub returns-in-Err-clause-none : goal.returns-in-Err-clause-none
+returns-in-Err-clause-none c = λ same.
     too_long c.in-Err.field-0 _
     (λ h. elim (c.in-Err.ensures.batch_size.0 (ap Err h)) [ inl zero_m ↦ omega arith | inr large ↦ omega arith ])
     (λ h. let w = c.in-Err.ensures.symbol_size.0 (ap Err h) in elim w.2 [ inl zero_t ↦ omega arith | inr large ↦ omega arith ])

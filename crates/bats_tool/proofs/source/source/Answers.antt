@@ -1,45 +1,22 @@
-use Rattle.std.proofs.Common.{◌≡◌, ◌∙◌, ap, sym, refl, ℕ, List}
-use Rattle.bats_model.specs.Session.{SessionData}
-use Rattle.bats_encoder.specs.Encoder.{EncoderData}
-use Rattle.bats_tool.specs.Source.{source_output}
-use Rattle.bats_tool.proofs.Writing.{Writes-same}
-use Rattle.bats_tool.proofs.Sourcing.{Attempts-stopped, Attempts-cut_short, Attempts-done}
+use Rattle.std.proofs.Common.{◌≡◌, ◌≤◌, ◌∙◌, ap, subst, ℕ, length, arith}
+use Rattle.bats_model.specs.Session.{symbols_of}
+use Rattle.bats_tool.specs.FileSession.{session_for}
+use Rattle.bats_tool.proofs.Sourcing.{Attempts-failed, IsReady-read}
 use Rattle.bats_tool.proofs.source.source.Goals as goal
 
-pub returns-in_err-session : goal.returns-in_err-session
-returns-in_err-session g c =
-    Attempts-stopped c.args.options.now _ _
-    (g.O.Sink.state c.args.output.now)
-    c.in_err-session.field-0.0 _ c.in_err-session.ensures c.from_residual.ensures.1
+pub returns-in_err-file : goal.returns-in_err-file
+returns-in_err-file g c =
+    Attempts-failed c.args.options.now (g.S.Source.state c.args.input.now) (g.S.Source.state c.read_file.new.input)
+    (g.O.Sink.state c.args.output.now) c.in_err-file.field-0.0 _ c.in_err-file.ensures c.from_residual.ensures.1
 
-pub returns-in_err-write_output-in-Ok : goal.returns-in_err-write_output-in-Ok
-returns-in_err-write_output-in-Ok g c =
+pub returns-in-Some : goal.returns-in-Some
+returns-in-Some g c =
     let o = c.args.options.now in
-    let encoded : c.in-Ok.encoder.session ≡ c.in_ok-session.session = ap (λ (e : EncoderData). e.session) c.in-Ok.ensures.ok in
-    let file : c.in-Ok.encoder.file ≡ c.in_ok-session.file.items = ap (λ (e : EncoderData). e.file) c.in-Ok.ensures.ok ∙ c.from.ensures in
-    let output : source_output c.in_ok-session.session c.in_ok-session.file.items o.first o.batches
-    ≡ source_output c.in-Ok.encoder.session c.in-Ok.encoder.file o.first o.batches =
-    sym (ap (λ (s : SessionData). source_output s c.in-Ok.encoder.file o.first o.batches) encoded
-    ∙ ap (λ (bytes : List ℕ). source_output c.in_ok-session.session bytes o.first o.batches) file) in
-    Attempts-cut_short o _ _
-    (g.O.Sink.state c.args.output.now)
-    (g.O.Sink.state c.write_output.new.output)
-    c.in_ok-session.session c.in_ok-session.file.items c.in_err-write_output-in-Ok.field-0.0 _
-    c.in_ok-session.ensures (Writes-same output c.in_err-write_output-in-Ok.ensures.written)
-    c.from_residual-in_err-write_output-in-Ok.ensures.1
-
-pub returns : goal.returns
-returns g c =
-    let o = c.args.options.now in
-    let encoded : c.in-Ok.encoder.session ≡ c.in_ok-session.session = ap (λ (e : EncoderData). e.session) c.in-Ok.ensures.ok in
-    let file : c.in-Ok.encoder.file ≡ c.in_ok-session.file.items = ap (λ (e : EncoderData). e.file) c.in-Ok.ensures.ok ∙ c.from.ensures in
-    let output : source_output c.in_ok-session.session c.in_ok-session.file.items o.first o.batches
-    ≡ source_output c.in-Ok.encoder.session c.in-Ok.encoder.file o.first o.batches =
-    sym (ap (λ (s : SessionData). source_output s c.in-Ok.encoder.file o.first o.batches) encoded
-    ∙ ap (λ (bytes : List ℕ). source_output c.in_ok-session.session bytes o.first o.batches) file) in
-    Attempts-done o _ _
-    (g.O.Sink.state c.args.output.now)
-    (g.O.Sink.state c.write_output.new.output)
-    c.in_ok-session.session c.in_ok-session.file.items _
-    c.in_ok-session.ensures (Writes-same output c.in_ok-write_output-in-Ok.ensures.written)
-    c.in_ok-write_output-in-Ok.ensures.flushed refl c.in_ok-line.ensures
+    let file = c.in_ok-file.file.items in
+    let size : c.len.result ≡ length file = omega arith in
+    let counted : symbols_of (session_for o (length file)) ≤ 4096 =
+    subst (λ (n : ℕ). symbols_of (session_for o n) ≤ 4096) size c.in-Some.ensures.within in
+    let session : c.in-Some.session ≡ session_for o (length file) = c.in-Some.ensures.some ∙ ap (session_for o) size in
+    c.send.ensures (g.S.Source.state c.args.input.now) (g.S.Source.state c.read_file.new.input)
+    (IsReady-read o (g.S.Source.state c.args.input.now) (g.S.Source.state c.read_file.new.input) file c.in-Some.session (omega arith)
+    c.in_ok-file.ensures counted session)

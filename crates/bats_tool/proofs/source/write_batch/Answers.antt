@@ -2,12 +2,12 @@ use Rattle.std.proofs.Common.{◌≡◌, ◌<◌, ◌∙◌, ap, sym, arith, ℕ
 use Rattle.std.specs.List.{range_with_len}
 use Rattle.bats_model.specs.Session.{SessionData}
 use Rattle.bats_tool.specs.Source.{coded_record, batch_records}
-use Rattle.bats_tool.proofs.Writing.{Writes-nothing, Writes-same}
+use Rattle.tool_run.proofs.Writing.{Writes-nothing, Writes-same}
 use Rattle.bats_tool.proofs.Loops.{Writes-more, Writes-failed}
 use Rattle.bats_tool.proofs.source.write_batch.Goals as goal
 
 pub loop-j-init : goal.loop-j-init
-loop-j-init g c = Writes-nothing (g.O.Sink.state c.args.output.now).written (g.O.Sink.state c.args.output.now).faults
+loop-j-init g c = Writes-nothing (g.O.Sink.state c.args.output.now)
 
 pub loop-j-preserved : goal.loop-j-preserved
 loop-j-preserved g c =

@@ -1,7 +1,7 @@
 use Rattle.std.proofs.Common.{◌≡◌, ap, sym, arith, ℕ, flat_map}
 use Rattle.std.specs.List.{range_with_len}
 use Rattle.bats_tool.specs.Source.{batch_records, packet_records}
-use Rattle.bats_tool.proofs.Writing.{Writes-same}
+use Rattle.tool_run.proofs.Writing.{Writes-same}
 use Rattle.bats_tool.proofs.Loops.{Writes-more, Writes-failed}
 use Rattle.bats_tool.proofs.source.write_batches.Goals as goal
 

@@ -1,10 +1,10 @@
 use Rattle.std.proofs.Common.{flat_map, None}
 use Rattle.std.specs.List.{range_with_len}
 use Rattle.bats_tool.specs.Source.{batch_records}
-use Rattle.bats_tool.specs.Writes.{Writes}
+use Rattle.tool_run.specs.Writes.{Writes}
 use Rattle.bats_tool.proofs.source.write_batches.Given as goal
 
 abbrev pub invariant-loop-i : goal.invariant-loop-i
 invariant-loop-i g l =
-    Writes (g.O.Sink.state l.fn.output).written (g.O.Sink.state l.output).written (g.O.Sink.state l.fn.output).faults (g.O.Sink.state l.output).faults
+    Writes (g.O.Sink.state l.fn.output) (g.O.Sink.state l.output)
     (flat_map (batch_records l.encoder.session l.encoder.file) (range_with_len l.first l.i)) None

@@ -6,7 +6,7 @@ use Rattle.bats_tool.specs.Source.{coded_record}
 use Rattle.bats_model.specs.Records.{packet_record}
 use Rattle.bats_model.proofs.UnitVectors.{length-unit_vector}
 use Rattle.bats_encoder.proofs.Agreements.{length-coded_payload}
-use Rattle.bats_tool.proofs.Writing.{Writes-nothing, Writes-same, Writes-exit_memory}
+use Rattle.tool_run.proofs.Writing.{Writes-nothing, Writes-same, Writes-exit_memory}
 use Rattle.bats_tool.proofs.source.write_coded.Goals as goal
 
 pub write_packet-requires-clause-coefs : goal.write_packet-requires-clause-coefs
@@ -23,7 +23,7 @@ write_packet-requires-clause-payload g c =
 
 pub returns-in_err-packet : goal.returns-in_err-packet
 returns-in_err-packet g c =
-    Writes-exit_memory _ _ refl c.from_residual.ensures.1 (Writes-nothing (g.O.Sink.state c.args.output.now).written (g.O.Sink.state c.args.output.now).faults)
+    Writes-exit_memory _ _ refl c.from_residual.ensures.1 (Writes-nothing (g.O.Sink.state c.args.output.now))
 
 pub returns : goal.returns
 unfolding coded_record

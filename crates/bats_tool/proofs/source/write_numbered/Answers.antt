@@ -3,7 +3,7 @@ use Rattle.bats_model.specs.Session.{SessionData}
 use Rattle.bats_model.specs.Batch.{BatchData, batch_of}
 use Rattle.bats_model.proofs.SystematicBatches.{number-batch_of}
 use Rattle.bats_tool.specs.Source.{batch_records}
-use Rattle.bats_tool.proofs.Writing.{Writes-nothing, Writes-same, Writes-exit_memory}
+use Rattle.tool_run.proofs.Writing.{Writes-nothing, Writes-same, Writes-exit_memory}
 use Rattle.bats_tool.proofs.source.write_numbered.Goals as goal
 
 numbered : (s : SessionData) (n : ℕ) (b : BatchData) → b ≡ batch_of s n → b.number ≡ n
@@ -22,7 +22,7 @@ write_batch-requires-clause-batch g c =
 
 pub returns-in_err-batch : goal.returns-in_err-batch
 returns-in_err-batch g c =
-    Writes-exit_memory _ _ refl c.from_residual.ensures.1 (Writes-nothing (g.O.Sink.state c.args.output.now).written (g.O.Sink.state c.args.output.now).faults)
+    Writes-exit_memory _ _ refl c.from_residual.ensures.1 (Writes-nothing (g.O.Sink.state c.args.output.now))
 
 pub returns : goal.returns
 returns g c =

@@ -1,4 +1,4 @@
-use Rattle.std.proofs.Common.{◌≡◌, ◌∙◌, List, ℕ, bit_and, bit_xor, subst, w8, Fits}
+use Rattle.std.proofs.Common.{◌∙◌, List, ℕ, bit_and, bit_xor, subst, w8, Fits}
 use lib.Lanes.{zip2, Each1}
 use Rattle.gf_rows.specs.declared.halves.TheConstants.{BIT_0, BIT_1, BIT_2, BIT_3}
 use Rattle.gf_rows.proofs.LaneLemmas.{masked_sums}

@@ -1,4 +1,4 @@
-use Rattle.std.proofs.Common.{◌≡◌, ◌∙◌, ◌*◌, ◌/◌, ◌-◌, ◌++◌, List, ℕ, length, take, drop, ap, sym, arith, take_all}
+use Rattle.std.proofs.Common.{◌≡◌, ◌∙◌, ◌*◌, ◌/◌, ◌-◌, ◌++◌, length, take, drop, ap, sym, arith, take_all}
 use Rattle.std.proofs.lemmas.List.{length-drop}
 use Rattle.gf_core.specs.Rows.{row_sum, add_scaled_row}
 use Rattle.gf_rows.specs.Multiples.{sum_of_four}

@@ -1,0 +1,27 @@
+-- What each command promises.
+use Rattle.std.specs.Prelude.{ℕ, List, Option, None, Some, codes}
+use Rattle.tool_run.specs.declared.status.Status.TheVariants as statuses
+use Rattle.tool_run.specs.Ending.{Ending, refusal, untouched}
+use Rattle.tool_run.specs.Promise.{Promise, reads_nothing}
+use Rattle.bats_words.specs.declared.command.Command.{Command}
+use Rattle.bats_words.specs.declared.command.Command.TheVariants as commands
+use Rattle.bats_words.specs.Options.{source_options}
+use Rattle.bats_tool.specs.Source.{source_promise}
+use Rattle.bats_tool.specs.Sink.{sink_promise}
+use Rattle.bats_tool.specs.Show.{show_promise}
+
+-- how words end that are no command
+abbrev pub usage_ending : Ending
+usage_ending = refusal statuses.Usage (codes "bats: usage\n") untouched
+
+-- the promise of words, as far as they are a command
+abbrev pub promise_of : Option Command → Promise
+promise_of None = reads_nothing usage_ending
+promise_of (Some (commands.Source m t table systematic seed first batches)) =
+    source_promise (source_options m t table systematic seed first batches)
+promise_of (Some (commands.Sink workers both)) = sink_promise both
+promise_of (Some commands.Show) = show_promise
+
+-- the endings that are right for these words on this input
+abbrev pub IsEnding : Option Command → List ℕ → Ending → Type 0
+IsEnding command input ending = (promise_of command).ends input ending

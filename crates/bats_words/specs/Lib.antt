@@ -1,0 +1,5 @@
+pub mod Options
+pub mod WordItems
+pub mod WordLookup
+pub mod WordValues
+pub mod Words

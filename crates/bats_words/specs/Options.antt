@@ -1,0 +1,31 @@
+-- What the commands are asked for.
+use Rattle.std.specs.Prelude.{ℕ, ◌≤◌, ◌<◌, Bool, List}
+use Rattle.bats_words.specs.declared.command.Command.{Command}
+use Rattle.bats_words.specs.declared.command.Command.TheVariants as commands
+use Rattle.bats_words.specs.declared.source_options.SourceOptions.{SourceOptions}
+
+-- the numbers of `source` are in the ranges that words are held to
+pub record HasRanges (options : SourceOptions) : Type 0 where
+  pub m_low : 1 ≤ options.m
+  pub m_high : options.m ≤ 32
+  pub t_low : 1 ≤ options.t
+  pub t_high : options.t ≤ 2048
+  pub table_high : options.table < 2
+  pub first_high : options.first ≤ 4000000000
+  pub batches_high : options.batches ≤ 32767
+
+-- what a command `source` of these values asks for
+abbrev pub source_options : ℕ → ℕ → ℕ → Bool → List ℕ → ℕ → ℕ → SourceOptions
+source_options m t table systematic seed first batches =
+    record { m = m; t = t; table = table; systematic = systematic; seed = seed; first = first; batches = batches }
+
+-- the number of workers is in the range that words are held to
+pub record HasWorkers (workers : ℕ) : Type 0 where
+  pub low : 1 ≤ workers
+  pub high : workers ≤ 64
+
+-- the numbers of a command are in the ranges that words are held to
+abbrev pub InRanges : Command → Type 0
+InRanges (commands.Source m t table systematic seed first batches) = HasRanges (source_options m t table systematic seed first batches)
+InRanges (commands.Sink workers both) = HasWorkers workers
+InRanges commands.Show = Unit {0}

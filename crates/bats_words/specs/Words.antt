@@ -1,0 +1,78 @@
+-- Which words are a command: the first is its name, and the others are its options and flags. A further command is one
+-- more list of names, one more builder, and one more case of `command_of`.
+use Rattle.std.specs.Prelude.{ℕ, Bool, List, [], ◌∷◌, Option, Some, None, option_and_then, if◌then◌else◌, codes}
+use Rattle.std.specs.Str.{bytes_eq}
+use Rattle.bats_words.specs.WordItems.{KnownNames, read_items, value_of, is_there}
+use Rattle.bats_words.specs.WordValues.{number_in, seed_of}
+use Rattle.bats_words.specs.declared.command.Command.{Command}
+use Rattle.bats_words.specs.declared.command.Command.TheVariants.{Source, Sink, Show}
+
+-- the second step, if the first gave a value
+infixl 10 ◌>>=◌
+abbrev pub ◌>>=◌ : {A B : Type 0} → Option A → (A → Option B) → Option B
+o >>= f = option_and_then f o
+
+-- what the value word is read as, or the default where the option is not there
+abbrev pub read_or : {A : Type 0} → A → (List ℕ → Option A) → Option (List ℕ) → Option A
+read_or default read None = Some default
+read_or default read (Some word) = read word
+
+-- The command that the words are, where they are items of the known names and none comes twice. It is built from two
+-- look-ups: the value word of an option, if the option is there, and whether a flag is there.
+abbrev pub read_by : KnownNames → ((List ℕ → Option (List ℕ)) → (List ℕ → Bool) → Option Command) → List (List ℕ) → Option Command
+read_by known build words = read_items known words >>= (λ items. build (λ name. value_of name items) (λ name. is_there name items))
+
+-- ---- source
+
+-- the names of `source`
+abbrev pub source_names : KnownNames
+source_names = record {
+  options = codes "--m" ∷ codes "--t" ∷ codes "--seed" ∷ codes "--batches" ∷ codes "--table" ∷ codes "--from" ∷ [];
+  flags = codes "--systematic" ∷ [];
+}
+
+-- The command `source`, in this order: packets of a batch, bytes of a symbol, seed, how many batches, degree table and
+-- first batch. The last two may be left out, and are then 0. The flag is off where it is not there.
+unfoldable pub source_of : (List ℕ → Option (List ℕ)) → (List ℕ → Bool) → Option Command
+source_of value flag = do
+  m ← value (codes "--m") >>= number_in 1 32
+  t ← value (codes "--t") >>= number_in 1 2048
+  seed ← value (codes "--seed") >>= seed_of
+  batches ← value (codes "--batches") >>= number_in 0 32767
+  table ← read_or 0 (number_in 0 1) (value (codes "--table"))
+  first ← read_or 0 (number_in 0 4000000000) (value (codes "--from"))
+  Some (Source m t table (flag (codes "--systematic")) seed first batches)
+
+-- ---- sink
+
+-- the names of `sink`
+abbrev pub sink_names : KnownNames
+sink_names = record { options = codes "--workers" ∷ []; flags = codes "--both" ∷ [] }
+
+-- The command `sink`: how many workers, 1 where the option is not there, and whether both files are written, which is
+-- off where the flag is not there.
+unfoldable pub sink_of : (List ℕ → Option (List ℕ)) → (List ℕ → Bool) → Option Command
+sink_of value flag = do
+  workers ← read_or 1 (number_in 1 64) (value (codes "--workers"))
+  Some (Sink workers (flag (codes "--both")))
+
+-- ---- show
+
+-- `show` has no names
+abbrev pub show_names : KnownNames
+show_names = record { options = []; flags = [] }
+
+-- The command `show`, which no word changes.
+unfoldable pub show_of : (List ℕ → Option (List ℕ)) → (List ℕ → Bool) → Option Command
+show_of value flag = Some Show
+
+-- ---- every command
+
+-- the command that the words are, the first of which is its name
+unfoldable pub command_of : List (List ℕ) → Option Command
+command_of [] = None
+command_of (name ∷ words) =
+    if bytes_eq name (codes "source") then read_by source_names source_of words
+    else if bytes_eq name (codes "sink") then read_by sink_names sink_of words
+    else if bytes_eq name (codes "show") then read_by show_names show_of words
+    else None

@@ -1,0 +1,10 @@
+//! The words of a command line: which command they are, and what it is asked for.
+#![tactic(auto)]
+
+mod command;
+mod source_options;
+mod words;
+
+pub use command::Command;
+pub use source_options::SourceOptions;
+pub use words::parse;

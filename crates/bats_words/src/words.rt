@@ -1,0 +1,290 @@
+//! Which command the words of a command line are.
+ghost use Rattle.std.specs.Prelude.{◌≡◌, map, string_bytes};
+ghost use Rattle.bats_words.specs.WordItems.{is_among};
+ghost use Rattle.bats_words.specs.WordLookup.{word_after};
+ghost use Rattle.bats_words.specs.Words.{command_of, read_by, source_of, source_names};
+ghost use Rattle.bats_words.specs.Words.{sink_of, sink_names, show_of, show_names};
+
+mod items;
+mod options;
+mod values;
+
+use crate::command::Command;
+use crate::words::items::{Names, are_read, has};
+use crate::words::options::{number, number_or, seed};
+
+/// The command that the words after the program's name are, if they are one.
+#[tactic(auto, unfolding(crate::specs::Words::command_of))]
+pub fn parse(words: &Vec<String>) -> Option<Command>
+    ensures { result ≡ command_of (map string_bytes words.now.items) }
+{
+    let (name, rest) = words.split_first()?;
+    match name.as_str() {
+        "source" => source(rest),
+        "sink" => sink(rest),
+        "show" => show(rest),
+        _ => None,
+    }
+}
+
+// The names of `source`.
+const SOURCE: Names = Names {
+    options: &["--m", "--t", "--seed", "--batches", "--table", "--from"],
+    flags: &["--systematic"],
+};
+
+fn source(words: &[String]) -> Option<Command>
+    ensures { result ≡ read_by source_names source_of (map string_bytes words.now) }
+{
+    if !are_read(&SOURCE, words) {
+        return None;
+    }
+    source_of(words)
+}
+
+// The command of words that are options and flags of `source`, none of them twice.
+#[tactic(auto, unfolding(crate::specs::Words::source_of))]
+fn source_of(words: &[String]) -> Option<Command>
+    ensures { let texts = map string_bytes words.now in
+        result ≡ source_of (λ name. word_after name texts) (is_among texts) }
+{
+    let m = number("--m", words, 1, 32)?;
+    let t = number("--t", words, 1, 2048)?;
+    let seed = seed("--seed", words)?;
+    let batches = number("--batches", words, 0, 32767)?;
+    let table = number_or(0, "--table", words, 0, 1)?;
+    let first = number_or(0, "--from", words, 0, 4_000_000_000)?;
+    Some(Command::Source {
+        m: m as u8,
+        t: t as u16,
+        table: table as u8,
+        systematic: has("--systematic", words),
+        seed,
+        first: first as u32,
+        batches: batches as u32,
+    })
+}
+
+// The names of `sink`.
+const SINK: Names = Names {
+    options: &["--workers"],
+    flags: &["--both"],
+};
+
+fn sink(words: &[String]) -> Option<Command>
+    ensures { result ≡ read_by sink_names sink_of (map string_bytes words.now) }
+{
+    if !are_read(&SINK, words) {
+        return None;
+    }
+    sink_of(words)
+}
+
+// The command of words that are options and flags of `sink`, none of them twice.
+#[tactic(auto, unfolding(crate::specs::Words::sink_of))]
+fn sink_of(words: &[String]) -> Option<Command>
+    ensures { let texts = map string_bytes words.now in
+        result ≡ sink_of (λ name. word_after name texts) (is_among texts) }
+{
+    let workers = number_or(1, "--workers", words, 1, 64)?;
+    Some(Command::Sink {
+        workers: workers as u32,
+        both: has("--both", words),
+    })
+}
+
+// `show` has no names.
+const SHOW: Names = Names {
+    options: &[],
+    flags: &[],
+};
+
+fn show(words: &[String]) -> Option<Command>
+    ensures { result ≡ read_by show_names show_of (map string_bytes words.now) }
+{
+    if !are_read(&SHOW, words) {
+        return None;
+    }
+    Some(Command::Show)
+}
+
+#[cfg(test)]
+mod tests {
+    use super::*;
+    use std::alloc::{AllocError, Global};
+    use std::test::Fail;
+
+    const SEED: [u8; 16] = [
+        0x00, 0x11, 0x22, 0x33, 0x44, 0x55, 0x66, 0x77, 0x88, 0x99, 0xaa, 0xbb, 0xcc, 0xdd, 0xee,
+        0xff,
+    ];
+
+    // The words between single spaces, so that two spaces have an empty word between them.
+    fn words_of(alloc: Global, line: &str) -> Result<Vec<String>, AllocError> {
+        let mut words = Vec::new(alloc);
+        for word in line.split(' ') {
+            words.push(String::from_str(alloc, word)?)?;
+        }
+        Ok(words)
+    }
+
+    fn parsed(rt: &impl AllocGlobal, line: &str) -> Result<Option<Command>, AllocError> {
+        Ok(parse(&words_of(rt.alloc(), line)?))
+    }
+
+    #[test]
+    fn reads_commands(rt: HostRuntime) -> Result<(), Fail> {
+        let plain = Command::Source {
+            m: 2,
+            t: 2,
+            table: 0,
+            systematic: false,
+            seed: SEED,
+            first: 0,
+            batches: 1,
+        };
+        let lowest = Command::Source {
+            m: 1,
+            t: 1,
+            table: 0,
+            systematic: false,
+            seed: SEED,
+            first: 0,
+            batches: 0,
+        };
+        let highest = Command::Source {
+            m: 32,
+            t: 2048,
+            table: 1,
+            systematic: true,
+            seed: SEED,
+            first: 4_000_000_000,
+            batches: 32767,
+        };
+        for (line, want) in [
+            (
+                "source --m 2 --t 2 --seed 00112233445566778899aabbccddeeff --batches 1",
+                plain,
+            ),
+            (
+                "source --batches 1 --seed 00112233445566778899AABBCCDDEEFF --t 2 --m 2",
+                plain,
+            ),
+            (
+                "source --m 00000000000000000002 --t 02 --seed 00112233445566778899aAbBcCdDeEfF --batches 1",
+                plain,
+            ),
+            (
+                "source --m 1 --t 1 --seed 00112233445566778899aabbccddeeff --batches 0 --table 0 --from 0",
+                lowest,
+            ),
+            (
+                "source --systematic --from 4000000000 --m 32 --table 1 --t 2048 --batches 32767 --seed 00112233445566778899aabbccddeeff",
+                highest,
+            ),
+            (
+                "source --from 4000000000 --m 32 --table 1 --t 2048 --batches 32767 --seed 00112233445566778899aabbccddeeff --systematic",
+                highest,
+            ),
+        ] {
+            assert_eq!(rt; parsed(&rt, line)?, Some(want), "at {line}");
+        }
+        Ok(())
+    }
+
+    #[test]
+    fn reads_sink_and_show(rt: HostRuntime) -> Result<(), Fail> {
+        for (line, workers, both) in [
+            ("sink", 1, false),
+            ("sink --workers 1", 1, false),
+            ("sink --workers 64 --both", 64, true),
+            ("sink --both --workers 007", 7, true),
+            ("sink --both", 1, true),
+        ] {
+            assert_eq!(rt;
+                parsed(&rt, line)?,
+                Some(Command::Sink { workers, both }),
+                "at {line}"
+            );
+        }
+        assert_eq!(rt; parsed(&rt, "show")?, Some(Command::Show));
+        Ok(())
+    }
+
+    #[test]
+    fn refuses_other_words(rt: HostRuntime) -> Result<(), Fail> {
+        assert_eq!(rt; parse(&Vec::new(rt.alloc())), None);
+        for line in [
+            "",
+            "source",
+            "sourc",
+            "sync",
+            "sinks",
+            "help",
+            "relay",
+            "Source --m 2 --t 2 --seed 00112233445566778899aabbccddeeff --batches 1",
+            "--m 2 source --t 2 --seed 00112233445566778899aabbccddeeff --batches 1",
+            // An option that is missing.
+            "source --t 2 --seed 00112233445566778899aabbccddeeff --batches 1",
+            "source --m 2 --seed 00112233445566778899aabbccddeeff --batches 1",
+            "source --m 2 --t 2 --batches 1",
+            "source --m 2 --t 2 --seed 00112233445566778899aabbccddeeff",
+            // Words that are neither options with their values nor flags.
+            "source --m=2 --t 2 --seed 00112233445566778899aabbccddeeff --batches 1",
+            "source -m 2 --t 2 --seed 00112233445566778899aabbccddeeff --batches 1",
+            "source --m 2 --t 2 --se 00112233445566778899aabbccddeeff --batches 1",
+            "source --m 2 --t 2 --seed 00112233445566778899aabbccddeeff --batches 1 --help",
+            "source --m 2 --t 2 --seed 00112233445566778899aabbccddeeff --batches 1 --",
+            "source -- --m 2 --t 2 --seed 00112233445566778899aabbccddeeff --batches 1",
+            "source --m 2 --t 2 --seed 00112233445566778899aabbccddeeff --batches 1 5",
+            "source --m 2 --t 2 --seed 00112233445566778899aabbccddeeff --batches 1 --systematic 1",
+            "source --m 2 --t 2 --seed 00112233445566778899aabbccddeeff --batches 1 --workers 2",
+            // No value word.
+            "source --m 2 --t 2 --seed 00112233445566778899aabbccddeeff --batches",
+            "source --m --t 2 --seed 00112233445566778899aabbccddeeff --batches 1",
+            "source --m  --t 2 --seed 00112233445566778899aabbccddeeff --batches 1",
+            "source --m 2 --t 2 --seed 00112233445566778899aabbccddeeff --batches --systematic",
+            // A name that comes twice.
+            "source --m 2 --m 2 --t 2 --seed 00112233445566778899aabbccddeeff --batches 1",
+            "source --m 2 --t 2 --seed 00112233445566778899aabbccddeeff --batches 1 --from 1 --from 1",
+            "source --systematic --m 2 --t 2 --seed 00112233445566778899aabbccddeeff --batches 1 --systematic",
+            // A number that is out of its range, or no number.
+            "source --m 0 --t 2 --seed 00112233445566778899aabbccddeeff --batches 1",
+            "source --m 33 --t 2 --seed 00112233445566778899aabbccddeeff --batches 1",
+            "source --m 2 --t 0 --seed 00112233445566778899aabbccddeeff --batches 1",
+            "source --m 2 --t 2049 --seed 00112233445566778899aabbccddeeff --batches 1",
+            "source --m 2 --t 2 --seed 00112233445566778899aabbccddeeff --batches 32768",
+            "source --m 2 --t 2 --seed 00112233445566778899aabbccddeeff --batches 1 --table 2",
+            "source --m 2 --t 2 --seed 00112233445566778899aabbccddeeff --batches 1 --from 4000000001",
+            "source --m 2 --t 2 --seed 00112233445566778899aabbccddeeff --batches 1 --from 18446744073709551616",
+            "source --m 2 --t 2 --seed 00112233445566778899aabbccddeeff --batches 1 --from 99999999999999999999",
+            "source --m 000000000000000000002 --t 2 --seed 00112233445566778899aabbccddeeff --batches 1",
+            "source --m +2 --t 2 --seed 00112233445566778899aabbccddeeff --batches 1",
+            "source --m -2 --t 2 --seed 00112233445566778899aabbccddeeff --batches 1",
+            "source --m 2x --t 2 --seed 00112233445566778899aabbccddeeff --batches 1",
+            "source --m 0x2 --t 2 --seed 00112233445566778899aabbccddeeff --batches 1",
+            // A seed that is not 32 hexadecimal digits.
+            "source --m 2 --t 2 --seed 00112233445566778899aabbccddeef --batches 1",
+            "source --m 2 --t 2 --seed 00112233445566778899aabbccddeeff0 --batches 1",
+            "source --m 2 --t 2 --seed 00112233445566778899aabbccddeefg --batches 1",
+            "source --m 2 --t 2 --seed 0x112233445566778899aabbccddeeff --batches 1",
+            // Other words of `sink`, and words after `show`.
+            "sink --workers",
+            "sink --workers --both",
+            "sink --workers 0",
+            "sink --workers 65",
+            "sink --workers=2",
+            "sink --workers 2 --workers 2",
+            "sink --both --both",
+            "sink --both 2",
+            "sink x",
+            "sink --m 2",
+            "show --both",
+            "show x",
+            "show ",
+        ] {
+            assert_eq!(rt; parsed(&rt, line)?, None, "at {line}");
+        }
+        Ok(())
+    }
+}

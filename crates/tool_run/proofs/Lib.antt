@@ -1,0 +1,5 @@
+pub mod Attempts
+pub mod Begun
+pub mod FilesRead
+pub mod Outcomes
+pub mod Writing

@@ -1,0 +1,9 @@
+pub mod Status
+pub mod Streams
+pub mod Ending
+pub mod Promise
+pub mod Run
+pub mod Attempt
+pub mod Concludes
+pub mod Reads
+pub mod Writes

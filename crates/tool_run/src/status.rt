@@ -1,0 +1,36 @@
+ghost use Rattle.std.specs.Prelude.{◌≡◌};
+ghost use Rattle.tool_run.specs.Status.{code_of};
+
+/// How a run ends. The number is the program's exit status.
+#[derive(Clone, Copy, Debug, PartialEq, Eq)]
+pub enum Status {
+    /// The command did what it is defined to do.
+    Done = 0,
+    /// Two files agree with all packets.
+    NeedMore = 1,
+    /// No file agrees with all packets.
+    Inconsistent = 2,
+    /// The words are no command.
+    Usage = 3,
+    /// The input is no packet file.
+    Input = 4,
+    /// The file has more than 4,096 symbols, or the input goes on after 1,048,576 records.
+    Limit = 5,
+    /// A read of the input failed.
+    ReadFault = 6,
+    /// A write or a flush of the output or of the notes failed.
+    WriteFault = 7,
+    /// Memory ran out.
+    Memory = 8,
+    /// The input has a packet that the command can't take yet.
+    NotBuilt = 10,
+}
+
+impl Status {
+    /// The exit status of the program.
+    pub fn code(self) -> u8
+        ensures { result ≡ code_of self }
+    {
+        self as u8
+    }
+}
