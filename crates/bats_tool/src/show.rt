@@ -214,7 +214,7 @@ pub fn show<S: Source, O: Sink>(
         headers: 0,
         packets: 0,
     };
-    loop {
+    'records: loop {
         if let Some(finish) = show_next(alloc, &mut reader, &mut counts, input, output)? {
             return Ok(finish);
         }

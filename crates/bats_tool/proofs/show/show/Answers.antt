@@ -3,12 +3,12 @@ use Rattle.bats_format.specs.Reader.{ReaderData}
 use Rattle.bats_tool.proofs.ShowSteps.{HasShown-fresh, Attempts-finish}
 use Rattle.bats_tool.proofs.show.show.Goals as goal
 
-pub loop-reader-init : goal.loop-reader-init
-loop-reader-init g c = record {
+pub records-init : goal.records-init
+records-init g c = record {
   counted = sym (ap (λ (reader : ReaderData). reader.records) c.new-reader.ensures.fresh);
   shown = HasShown-fresh _ c.new-reader.result c.new-reader.ensures.nothing_read c.new-reader.ensures.fresh;
 }
 
 pub returns-in-Some : goal.returns-in-Some
 returns-in-Some g c = Attempts-finish _ _ c.show_next.new.reader _ _ c.in_ok-finish.field-0 c.in-Some.finish c.in-Some.is
-    (c.in_ok-finish.ensures.shown _ c.loop-reader.invariant.shown)
+    (c.in_ok-finish.ensures.shown _ c.records.invariant.shown)
