@@ -4,10 +4,13 @@
 mod basis;
 mod entry;
 mod held;
-#[cfg(test)]
-mod held_tests;
 mod reduction;
 mod slot;
 
 pub use basis::Basis;
 pub use held::{Held, HeldEnd, MAX_KEPT};
+
+#[cfg(test)]
+mod held_tests;
+#[cfg(test)]
+mod tests;
