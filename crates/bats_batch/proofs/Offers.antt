@@ -1,5 +1,5 @@
 -- What becomes of the slots when a packet is offered to one of them or to a new one, and which packets they stand for then.
-use Rattle.std.proofs.Common.{ℕ, ◌≡◌, ◌≢◌, ◌<◌, ◌≤◌, ◌+◌, ◌∙◌, ◌==◌, eqb, if◌then◌else◌, sym, ap, refl, subst, List, All, [], ◌∷◌, ◌++◌, length, map, get_or, set, take, drop, arith, inl, inr, Result, Ok, Err, IfOk, IfErr}
+use Rattle.std.proofs.Common.{ℕ, ◌≡◌, ◌≢◌, ◌<◌, ◌≤◌, ◌+◌, ◌∙◌, eqb, if◌then◌else◌, sym, ap, refl, subst, List, All, [], ◌∷◌, ◌++◌, length, map, get_or, set, take, drop, arith, inl, inr, Result, Ok, Err, IfOk, IfErr}
 use Rattle.std.specs.List.{insert}
 use Rattle.std.specs.Prelude.{IsErrAnd}
 use Rattle.std.proofs.lemmas.Bool.{cases_eq, eq-eqb, ne_eqb}
