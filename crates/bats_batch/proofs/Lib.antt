@@ -9,3 +9,4 @@ pub mod HeldBatches
 pub mod RowCounts
 pub mod Places
 pub mod Offers
+pub mod HeldAgreement
