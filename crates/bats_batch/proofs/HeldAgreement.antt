@@ -1,10 +1,9 @@
 -- A file agrees with packets exactly where it agrees with the held batches that stand for them and none contradicts.
-use Rattle.std.proofs.Common.{ℕ, ◌≡◌, ◌<◌, ◌↔◌, ◌∙◌, ◌==◌, sym, ap, subst, refl, List, All, [], ◌∷◌, length, get_or, inl, inr}
+use Rattle.std.proofs.Common.{ℕ, ◌↔◌, ◌∙◌, ◌==◌, sym, subst, refl, List, All, [], ◌∷◌, inl, inr}
 use Rattle.std.proofs.lemmas.Bool.{cases_Bool}
-use Rattle.std.proofs.lemmas.List.{get_or_default}
 use Rattle.std.proofs.lemmas.List.Elements.{All-nil, All-head, All-tail, All-from_get_or}
 use Rattle.bats_model.specs.Agreement.{IsFile, Agrees, AgreesWithAll}
-use Rattle.bats_model.specs.Kept.{kept_of, HasContradiction}
+use Rattle.bats_model.specs.Kept.{HasContradiction}
 use Rattle.bats_model.specs.declared.packet.Packet.{Packet}
 use Rattle.bats_model.proofs.KeptAgreement.{kept-agreement}
 use Rattle.bats_batch.specs.Held.{HeldBatch, HeldData, kept_at, batch_at, no_batch, StandsFor}
