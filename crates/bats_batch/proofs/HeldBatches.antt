@@ -1,5 +1,5 @@
 -- What is kept at a number among held batches, and what a change of one batch or a further one does to it.
-use Rattle.std.proofs.Common.{ℕ, zero, suc, ◌≡◌, ◌∙◌, ◌≢◌, ◌<◌, ◌≤◌, ◌+◌, ◌-◌, ◌==◌, eqb, if◌then◌else◌, List, [], ◌∷◌, length, get_or, set, refl, sym, ap, subst, arith, inl, inr}
+use Rattle.std.proofs.Common.{ℕ, zero, suc, ◌≡◌, ◌∙◌, ◌≢◌, ◌<◌, ◌+◌, ◌-◌, eqb, if◌then◌else◌, List, [], ◌∷◌, length, set, refl, ap, subst, arith, inl, inr}
 use Rattle.std.specs.List.{insert}
 use Rattle.std.proofs.lemmas.Bool.{cases_lt}
 use Rattle.std.proofs.lemmas.Bool.Decides.{nat_tests}

@@ -4,7 +4,9 @@ pub mod Judging
 pub mod Growing
 pub mod Offering
 pub mod KeptAfter
+pub mod KeptOfBatches
 pub mod HeldBatches
 pub mod RowCounts
 pub mod Places
 pub mod Offers
+pub mod HeldAgreement

@@ -1,5 +1,5 @@
 -- What becomes of the slots when a packet is offered to one of them or to a new one, and which packets they stand for then.
-use Rattle.std.proofs.Common.{ℕ, ◌≡◌, ◌≢◌, ◌<◌, ◌≤◌, ◌+◌, ◌∙◌, ◌==◌, eqb, if◌then◌else◌, sym, ap, refl, subst, List, All, [], ◌∷◌, ◌++◌, length, map, get_or, set, take, drop, arith, inl, inr, Result, Ok, Err, IfOk, IfErr}
+use Rattle.std.proofs.Common.{ℕ, ◌≡◌, ◌≢◌, ◌<◌, ◌≤◌, ◌+◌, ◌∙◌, eqb, if◌then◌else◌, sym, ap, refl, subst, List, All, [], ◌∷◌, ◌++◌, length, map, get_or, set, take, drop, arith, inl, inr, Result, Ok, Err, IfOk, IfErr}
 use Rattle.std.specs.List.{insert}
 use Rattle.std.specs.Prelude.{IsErrAnd}
 use Rattle.std.proofs.lemmas.Bool.{cases_eq, eq-eqb, ne_eqb}
@@ -19,19 +19,14 @@ use Rattle.bats_batch.specs.declared.held.HeldEnd.{HeldEnd}
 use Rattle.bats_batch.specs.declared.held.HeldEnd.TheVariants.{Full}
 use Rattle.bats_batch.specs.declared.slot.Slot.{Slot}
 use Rattle.bats_batch.proofs.HeldBatches.{kept_at-stands, kept_at-set, rising-set, kept_at-belongs, kept_at-insert, rising-insert}
-use Rattle.bats_batch.proofs.KeptAfter.{kept_of-taken, kept_of-push_other}
+use Rattle.bats_batch.proofs.KeptAfter.{All-kept_with}
+use Rattle.bats_batch.proofs.KeptOfBatches.{kept_of-taken, kept_of-push_other}
 use Rattle.bats_batch.proofs.RowCounts.{row_count-packets, length-row_count}
 
 length-kept_with : (kept : List Packet) (packet : Packet) (taken : Taken) → length (kept_with kept packet taken) ≡ length kept + gain_of taken
 length-kept_with kept packet Kept = length_push kept packet
 length-kept_with kept packet Dependent = omega arith
 length-kept_with kept packet Contradiction = omega arith
-
-AreOf-kept_with : (number : ℕ) (kept : List Packet) (packet : Packet) (taken : Taken) → AreOf number kept → packet.batch ≡ number
-    → AreOf number (kept_with kept packet taken)
-AreOf-kept_with number kept packet Kept own same = All-push (λ p. p.batch ≡ number) kept packet own same
-AreOf-kept_with number kept packet Dependent own same = own
-AreOf-kept_with number kept packet Contradiction own same = own
 
 if_same : (number : ℕ) (kept other : List Packet) → (if eqb number number then kept else other) ≡ kept
 if_same number kept other = rw (eq-eqb number number refl) refl
@@ -96,7 +91,7 @@ module _ (session : SessionData) (slots : List Slot) (place : ℕ) (slot : Slot)
             ap (λ (ps : List Packet). length ps) kept,
             length-kept_with old.basis.kept packet taken,
           );
-      own = subst (AreOf old.number) (sym kept) (AreOf-kept_with old.number old.basis.kept packet taken (are.each place slot within).own (sym number));
+      own = subst (AreOf old.number) (sym kept) (All-kept_with (λ p. p.batch ≡ old.number) old.basis.kept packet taken (are.each place slot within).own (sym number));
     }
 
     pub Takes-set : Takes session slots (set slots place new) packet taken

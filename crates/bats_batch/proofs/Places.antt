@@ -1,12 +1,11 @@
 -- Where a batch stands or belongs among slots: behind the last one, or where a binary search ends.
-use Rattle.std.proofs.Common.{ℕ, ◌≡◌, ◌<◌, ◌≤◌, ◌-◌, ◌∙◌, List, length, get_or, map, sym, ap, arith, Result, Ok, Err, IfOk, IfErr}
+use Rattle.std.proofs.Common.{ℕ, ◌≡◌, ◌<◌, ◌≤◌, ◌-◌, ◌∙◌, List, length, get_or, sym, ap, arith, Result, Ok, Err, IfOk, IfErr}
 use Rattle.std.specs.List.Sorted.{IsSearchInRange, IsBinarySearchResult, IsNonDecreasingBy}
 use Rattle.std.specs.Ordering.{nat_cmp, ordering_index}
 use Rattle.std.proofs.lemmas.Cmp.{ranked}
 use Rattle.std.proofs.lemmas.Bool.Decides.{nat_tests}
-use Rattle.std.proofs.lemmas.List.{length-map, get_or-map, get_or_default}
+use Rattle.std.proofs.lemmas.List.{length-map, get_or-map}
 use Rattle.std.proofs.lemmas.List.Sorted.{IsNonDecreasingBy-from_default}
-use Rattle.bats_batch.specs.Basis.{BasisData}
 use Rattle.bats_batch.specs.Held.{HeldBatch, no_batch, batch_at, HaveRisingNumbers}
 use Rattle.bats_batch.specs.steps.Slots.{batch_in, batches_in, StandsAt, BelongsAt}
 use Rattle.bats_batch.specs.declared.slot.Slot.{Slot}

@@ -1,12 +1,12 @@
 -- How many packets are kept in held batches that have each list's kept packets.
-use Rattle.std.proofs.Common.{ℕ, suc, ◌≡◌, ◌≢◌, ◌<◌, ◌≤◌, ◌+◌, ◌∙◌, ◌==◌, sym, ap, refl, Bool, true, false, not, List, All, [], ◌∷◌, length, arith, inl, inr}
+use Rattle.std.proofs.Common.{ℕ, suc, ◌≡◌, ◌≢◌, ◌<◌, ◌≤◌, ◌∙◌, ◌==◌, sym, ap, refl, false, not, List, All, [], ◌∷◌, length, arith, inl, inr}
 use Rattle.std.specs.Prelude.{filter}
 use Rattle.std.proofs.lemmas.Bool.{cases_Bool, cases_eq, eqb-true, eq-eqb, ne_eqb}
 use Rattle.std.proofs.lemmas.List.Elements.{All-head, All-tail}
 use Rattle.std.proofs.lemmas.List.Filters.{length-filter_both}
 use Rattle.std.proofs.lemmas.List.Sums.{sum_by-cons}
 use Rattle.bats_model.specs.declared.packet.Packet.{Packet}
-use Rattle.bats_batch.specs.Held.{HeldBatch, kept_at, row_count, batch_at, HaveRisingNumbers}
+use Rattle.bats_batch.specs.Held.{HeldBatch, kept_at, row_count, HaveRisingNumbers}
 use Rattle.bats_batch.proofs.HeldBatches.{kept_at-absent}
 
 -- the packets of a batch

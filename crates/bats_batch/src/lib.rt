@@ -5,11 +5,13 @@
 mod basis;
 mod entry;
 mod held;
+mod laws;
 mod reduction;
 mod slot;
 
 pub use basis::Basis;
 pub use held::{Held, HeldEnd, MAX_KEPT};
+pub use laws::held_batches_stand_for_all;
 
 #[cfg(test)]
 mod held_tests;

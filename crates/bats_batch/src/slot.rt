@@ -40,8 +40,8 @@ fn goes_last(slots: &[Slot], number: u32) -> bool
     }
 }
 
-// Where the batch stands, or where it belongs. The place of the last look-up and the one behind the last slot are tried
-// first, and then it is a binary search.
+// Where the batch stands, or where it belongs. The place of the last look-up, the next one and the one behind the last
+// slot are tried first, and then it is a binary search.
 pub(crate) fn place_of(slots: &[Slot], last: usize, number: u32) -> Result<usize, usize>
     requires rising { HaveRisingNumbers (batches_in slots.now) }
     ensures held { IfOk result (StandsAt (batches_in slots.now) number) }
@@ -49,6 +49,10 @@ pub(crate) fn place_of(slots: &[Slot], last: usize, number: u32) -> Result<usize
 {
     if stands_at(slots, last, number) {
         return Ok(last);
+    }
+    let next = last.wrapping_add(1);
+    if stands_at(slots, next, number) {
+        return Ok(next);
     }
     if goes_last(slots, number) {
         return Err(slots.len());

@@ -4,7 +4,7 @@ use Rattle.bats_model.specs.Session.{SessionData}
 use Rattle.bats_model.specs.declared.packet.Packet.{Packet}
 use Rattle.bats_model.specs.declared.taken.Taken.{Taken}
 use Rattle.bats_model.specs.declared.taken.Taken.TheVariants.{Kept, Dependent, Contradiction}
-use Rattle.bats_batch.specs.Basis.{BasisData, IsTaken, kept_with}
+use Rattle.bats_batch.specs.Basis.{IsTaken, kept_with}
 use Rattle.bats_batch.specs.Held.{HeldBatch, kept_at, row_count, batch_at, HaveRisingNumbers, max_kept}
 use Rattle.bats_batch.specs.declared.slot.Slot.{Slot}
 

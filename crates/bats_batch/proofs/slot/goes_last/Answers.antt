@@ -1,5 +1,5 @@
 -- The last slot's number is below the batch's.
-use Rattle.std.proofs.Common.{◌<◌, ◌≡◌, ◌-◌, length, get_or, arith}
+use Rattle.std.proofs.Common.{◌<◌, arith}
 use Rattle.std.proofs.lemmas.Bool.Decides.{nat_tests}
 use Rattle.bats_batch.proofs.Places.{BelongsAt-end}
 use Rattle.bats_batch.proofs.slot.goes_last.Goals as goal

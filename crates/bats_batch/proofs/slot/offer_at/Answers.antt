@@ -1,5 +1,5 @@
 -- The batch's slot has the new basis, and the others are as before.
-use Rattle.std.proofs.Common.{◌≡◌, ◌∙◌, sym, subst, List, get_or}
+use Rattle.std.proofs.Common.{sym, subst, List, get_or}
 use Rattle.std.specs.Prelude.{IsFalse}
 use Rattle.bats_model.specs.declared.packet.Packet.{Packet}
 use Rattle.bats_model.specs.declared.taken.Taken.TheVariants.{Kept}

@@ -1,5 +1,5 @@
 -- The batch is held from now on where the packet is kept, and the others are as before.
-use Rattle.std.proofs.Common.{◌≡◌, ◌∙◌, ap, sym, subst, List, [], ◌∷◌}
+use Rattle.std.proofs.Common.{◌∙◌, ap, sym, subst, List, []}
 use Rattle.std.specs.Prelude.{IsFalse}
 use Rattle.bats_model.specs.declared.packet.Packet.{Packet}
 use Rattle.bats_model.specs.declared.taken.Taken.TheVariants.{Kept}

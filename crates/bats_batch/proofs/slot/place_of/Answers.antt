@@ -1,7 +1,6 @@
 -- The closure gives a slot's number.
 use Rattle.std.proofs.Common.{rules, []}
 use Rattle.std.proofs.lemmas.List.Sorted.{answers_always}
-use Rattle.bats_batch.specs.Basis.{BasisData}
 use Rattle.bats_batch.specs.declared.slot.Slot.{Slot}
 use Rattle.bats_batch.proofs.Places.{searched}
 use Rattle.bats_batch.proofs.slot.place_of.Goals as goal

@@ -1,5 +1,5 @@
 -- What a look-up finds among the slots.
-use Rattle.std.proofs.Common.{◌≡◌, ◌<◌, ◌∙◌, length, ap, sym, subst, List}
+use Rattle.std.proofs.Common.{◌<◌, ◌∙◌, length, ap, sym, subst, List}
 use Rattle.bats_batch.specs.Held.{HeldData, kept_at, basis_with}
 use Rattle.bats_batch.specs.steps.Slots.{batches_in, StandsAt, BelongsAt}
 use Rattle.bats_batch.specs.declared.slot.Slot.{Slot}

@@ -1,5 +1,5 @@
 -- Each held batch has a kept packet.
-use Rattle.std.proofs.Common.{◌≤◌, length, arith}
+use Rattle.std.proofs.Common.{arith}
 use Rattle.bats_batch.proofs.Offers.{slots-le}
 use Rattle.bats_batch.proofs.held.Held.batches.Goals as goal
 

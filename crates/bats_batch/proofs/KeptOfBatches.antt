@@ -1,0 +1,98 @@
+-- What is kept of each batch after one packet more, by what becomes of that packet.
+use Rattle.std.proofs.Common.{ℕ, ◌≡◌, ◌+◌, ◌∙◌, ◌==◌, sym, ap, subst, refl, Bool, true, false, cond, List, All, [], ◌∷◌, ◌++◌, map, take, arith, inl, inr}
+use Rattle.std.specs.Prelude.{filter}
+use Rattle.std.specs.Bool.{Decides}
+use Rattle.std.proofs.lemmas.Bool.{cases_Bool, eq-eqb, false_from_ne_true}
+use Rattle.std.proofs.lemmas.List.{append-nil}
+use Rattle.std.proofs.lemmas.List.Elements.{All-weaker}
+use Rattle.gf_core.specs.Combinations.{IsInSpan}
+use Rattle.gf_core.proofs.CombinationLemmas.{take-IsInSpan}
+use Rattle.bats_model.specs.Session.{SessionData}
+use Rattle.bats_model.specs.PacketFile.{HasShape}
+use Rattle.bats_model.specs.Kept.{IsCombination, Follows, coefs_of, packet_row, is_new, kept_of}
+use Rattle.bats_model.specs.declared.packet.Packet.{Packet}
+use Rattle.bats_model.specs.declared.taken.Taken.{Taken}
+use Rattle.bats_model.specs.declared.taken.Taken.TheVariants.{Kept, Dependent, Contradiction}
+use Rattle.bats_model.proofs.NewPackets.{kept_of-push}
+use Rattle.bats_model.proofs.KeptSpans.{HasVector, All-kept_of, is_new-kept, is_of}
+use Rattle.bats_batch.specs.Basis.{IsTaken, kept_with}
+use Rattle.bats_batch.specs.steps.IsBasis.{IsSized}
+use Rattle.bats_batch.proofs.KeptRows.{length-packet_row, take-packet_row, take-packet_rows}
+
+-- those of a batch among at most one packet
+abbrev if_of : ℕ → Bool → Packet → List Packet
+if_of batch b packet = filter (is_of batch) (cond b (packet ∷ []) [])
+
+kept_of-push_if : (batch : ℕ) (packets : List Packet) (packet : Packet) (b : Bool) → is_new packets packet ≡ b
+    → kept_of batch (packets ++ packet ∷ []) ≡ kept_of batch packets ++ if_of batch b packet
+kept_of-push_if batch packets packet b e =
+    kept_of-push batch packets packet ∙ ap (λ (b : Bool). kept_of batch packets ++ if_of batch b packet) e
+
+-- a new packet is kept
+kept_of-push_new : (packets : List Packet) (packet : Packet) → is_new packets packet ≡ true
+    → kept_of packet.batch (packets ++ packet ∷ []) ≡ kept_of packet.batch packets ++ packet ∷ []
+kept_of-push_new packets packet new =
+    let own : if_of packet.batch true packet ≡ packet ∷ [] = rw (eq-eqb packet.batch packet.batch refl) refl in
+    kept_of-push_if packet.batch packets packet true new ∙ ap (λ (ps : List Packet). kept_of packet.batch packets ++ ps) own
+
+-- one that isn't new is not
+kept_of-push_old : (batch : ℕ) (packets : List Packet) (packet : Packet) → is_new packets packet ≡ false
+    → kept_of batch (packets ++ packet ∷ []) ≡ kept_of batch packets
+kept_of-push_old batch packets packet old =
+    kept_of-push_if batch packets packet false old ∙ append-nil (kept_of batch packets)
+
+-- and what is kept of other batches stays
+pub kept_of-push_other : (batch : ℕ) (packets : List Packet) (packet : Packet) → (packet.batch == batch) ≡ false
+    → kept_of batch (packets ++ packet ∷ []) ≡ kept_of batch packets
+kept_of-push_other batch packets packet other = elim (cases_Bool (is_new packets packet)) [
+  | inl new ↦
+      let none : if_of batch true packet ≡ [] = rw other refl in
+      kept_of-push_if batch packets packet true new ∙ ap (λ (ps : List Packet). kept_of batch packets ++ ps) none
+      ∙ append-nil (kept_of batch packets)
+  | inr old ↦ kept_of-push_old batch packets packet old
+]
+
+HasVector-shape : (session : SessionData) (packet : Packet) → HasShape session packet → HasVector session.m packet
+HasVector-shape session packet shape = record { size = shape.coefs; bytes = shape.coef_bytes }
+
+IsSized-shape : (session : SessionData) (packet : Packet) → HasShape session packet → IsSized session.m session.t packet
+IsSized-shape session packet shape = record {
+  coefs = shape.coefs;
+  payload = shape.payload;
+  coef_bytes = shape.coef_bytes;
+  payload_bytes = shape.payload_bytes;
+}
+
+-- the vector of a packet that follows is a combination of the kept ones
+combination-follows : (m t : ℕ) (kept : List Packet) (packet : Packet) → All (IsSized m t) kept → IsSized m t packet → Follows kept packet
+    → IsCombination (coefs_of kept) packet.coefs
+combination-follows m t kept packet sizes size follows =
+    let rows : List (List ℕ) = map packet_row kept in
+    let whole : IsInSpan (m + t) rows (packet_row packet) =
+    subst (λ (width : ℕ). IsInSpan width rows (packet_row packet)) (length-packet_row m t packet size) follows in
+    let front : IsInSpan m (map (take m) rows) (take m (packet_row packet)) =
+    take-IsInSpan (m + t) m rows (packet_row packet) (omega arith) whole in
+    subst (λ (width : ℕ). IsInSpan width (coefs_of kept) packet.coefs) (sym size.coefs)
+    (subst (IsInSpan m (coefs_of kept)) (take-packet_row m t packet size)
+    (subst (λ (vectors : List (List ℕ)). IsInSpan m vectors (take m (packet_row packet))) (take-packet_rows m t kept sizes) front))
+
+module _ (session : SessionData) (packets : List Packet) (packet : Packet) (shapes : All (HasShape session) packets) (shape : HasShape session packet) where
+  decides : Decides (is_new packets packet) (¬ IsCombination (coefs_of (kept_of packet.batch packets)) packet.coefs)
+  decides =
+      is_new-kept session.m packets packet (All-weaker (HasShape session) (HasVector session.m) (HasVector-shape session) packets shapes)
+      (HasVector-shape session packet shape)
+
+  stays : IsCombination (coefs_of (kept_of packet.batch packets)) packet.coefs
+      → kept_of packet.batch (packets ++ packet ∷ []) ≡ kept_of packet.batch packets
+  stays is = kept_of-push_old packet.batch packets packet (false_from_ne_true (is_new packets packet) (λ e. decides.0 e is))
+
+  -- what is kept of the packet's batch is what its taking leaves
+  pub kept_of-taken : (taken : Taken) → IsTaken (kept_of packet.batch packets) packet taken
+      → kept_of packet.batch (packets ++ packet ∷ []) ≡ kept_with (kept_of packet.batch packets) packet taken
+  kept_of-taken Kept is = kept_of-push_new packets packet (decides.1 is)
+  kept_of-taken Dependent is =
+      stays (combination-follows session.m session.t (kept_of packet.batch packets) packet
+      (All-kept_of (IsSized session.m session.t) packet.batch packets
+      (All-weaker (HasShape session) (IsSized session.m session.t) (IsSized-shape session) packets shapes))
+      (IsSized-shape session packet shape) is)
+  kept_of-taken Contradiction is = stays is.combination
