@@ -142,11 +142,14 @@ mod tests {
 
     impl Read for LateReader {
         fn read(&mut self, buf: &mut [u8]) -> io::Result<usize> {
-            self.calls += 1;
+            self.calls = self.calls.saturating_add(1);
             if self.calls == 1 {
                 return Err(io::Error::from(io::ErrorKind::Interrupted));
             }
-            buf[0] = 7;
+            let Some(first) = buf.first_mut() else {
+                return Ok(0);
+            };
+            *first = 7;
             Ok(1)
         }
     }
@@ -161,7 +164,7 @@ mod tests {
 
     impl Write for LateWriter {
         fn write(&mut self, piece: &[u8]) -> io::Result<usize> {
-            self.writes += 1;
+            self.writes = self.writes.saturating_add(1);
             if self.writes > 1 {
                 return Ok(piece.len());
             }
@@ -172,7 +175,7 @@ mod tests {
         }
 
         fn flush(&mut self) -> io::Result<()> {
-            self.flushes += 1;
+            self.flushes = self.flushes.saturating_add(1);
             if self.flushes > 1 {
                 return Ok(());
             }
