@@ -7,4 +7,5 @@ pub mod MatrixLemmas
 pub mod LinearLemmas
 pub mod SolutionLemmas
 pub mod KernelLemmas
+mod RoundLemmas
 mod Examples

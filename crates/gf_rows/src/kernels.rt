@@ -5,7 +5,7 @@ ghost use Rattle.gf_rows.specs.Multiples.{sum_of_four};
 
 use crate::multiple::Multiple;
 use crate::steps::Steps;
-use crate::{lanes, plain};
+use crate::{lanes, plain, rounds};
 use gf_core::Gf;
 use std::sync::ledger::Ledger;
 
@@ -31,16 +31,26 @@ fn add_row(dst: &mut [u8], src: &[u8])
     plain::add_row(&mut dst[whole..], &src[whole..]);
 }
 
-// Does what `add_scaled` does. Rows that fill no vector are multiplied without tables.
+// Does what `add_scaled` does. Rows of fewer than 32 bytes are multiplied without tables.
 fn add_multiple(dst: &mut [u8], c: Gf, src: &[u8])
     requires { length dst.old ≡ length src.now }
     ensures { dst.new ≡ add_scaled_row dst.old c src.now }
 {
     if dst.len() < 32 {
-        plain::add_scaled(dst, c, src)
+        add_short(dst, c, src)
     } else {
         add_by_vectors(dst, c, src)
     }
+}
+
+// Does what `add_scaled` does without tables: 16 bytes at a time by rounds, and then the others.
+fn add_short(dst: &mut [u8], c: Gf, src: &[u8])
+    requires { length dst.old ≡ length src.now }
+    ensures { dst.new ≡ add_scaled_row dst.old c src.now }
+{
+    let whole = dst.len() / 16 * 16;
+    rounds::add_scaled(&mut dst[..whole], c, &src[..whole]);
+    plain::add_scaled(&mut dst[whole..], c, &src[whole..]);
 }
 
 // Does what `add_scaled` does, with the bytes that fill vectors first and then the others.
@@ -50,7 +60,7 @@ fn add_by_vectors(dst: &mut [u8], c: Gf, src: &[u8])
 {
     let whole = dst.len() / 32 * 32;
     lanes::add_scaled(&mut dst[..whole], c, &src[..whole]);
-    plain::add_scaled(&mut dst[whole..], c, &src[whole..]);
+    add_short(&mut dst[whole..], c, &src[whole..]);
 }
 
 /// Adds four multiples to `dst`, one after another, in a single pass over it. All rows have its length.
@@ -80,10 +90,10 @@ fn add_each(dst: &mut [u8], a: &Multiple, b: &Multiple, c: &Multiple, d: &Multip
         a.now.factor a.now.row.now) b.now.factor b.now.row.now) c.now.factor c.now.row.now)
         d.now.factor d.now.row.now }
 {
-    plain::add_scaled(dst, a.factor, a.row);
-    plain::add_scaled(dst, b.factor, b.row);
-    plain::add_scaled(dst, c.factor, c.row);
-    plain::add_scaled(dst, d.factor, d.row);
+    add_short(dst, a.factor, a.row);
+    add_short(dst, b.factor, b.row);
+    add_short(dst, c.factor, c.row);
+    add_short(dst, d.factor, d.row);
 }
 
 // Does what `add_four` does, with the bytes that fill vectors first and then the others.
@@ -121,10 +131,19 @@ pub fn scale_row(row: &mut [u8], c: Gf)
         return;
     }
     if row.len() < 32 {
-        plain::scale_row(row, c);
+        scale_short(row, c);
     } else {
         scale_by_vectors(row, c);
     }
+}
+
+// Does what `scale_row` does without tables: 16 bytes at a time by rounds, and then the others.
+fn scale_short(row: &mut [u8], c: Gf)
+    ensures { row.new ≡ scaled_row c row.old }
+{
+    let whole = row.len() / 16 * 16;
+    rounds::scale_row(&mut row[..whole], c);
+    plain::scale_row(&mut row[whole..], c);
 }
 
 // Does what `scale_row` does, with the bytes that fill vectors first and then the others.
@@ -133,7 +152,7 @@ fn scale_by_vectors(row: &mut [u8], c: Gf)
 {
     let whole = row.len() / 32 * 32;
     lanes::scale_row(&mut row[..whole], c);
-    plain::scale_row(&mut row[whole..], c);
+    scale_short(&mut row[whole..], c);
 }
 
 /// Does what `add_scaled` does, and counts one step.

@@ -12,6 +12,7 @@ mod multiple;
 mod operation;
 mod plain;
 mod plan;
+mod rounds;
 mod steps;
 
 pub use kernels::{add_four, add_scaled, axpy, axpy_four, dot, scale, scale_row};
