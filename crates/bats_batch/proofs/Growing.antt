@@ -20,7 +20,8 @@ use Rattle.gf_core.proofs.LinearRows.{AreRows-push}
 use Rattle.gf_core.proofs.CombinationLemmas.{IsInSpan-row_sum, IsInSpan-scaled, IsInSpan-push, IsInSpan-last, IsInSpan-trans, AreTriangular-push}
 use Rattle.bats_model.specs.declared.packet.Packet.{Packet}
 use Rattle.bats_model.specs.Kept.{packet_row}
-use Rattle.bats_batch.specs.steps.IsBasis.{IsSized, IsBasis}
+use Rattle.bats_batch.specs.Basis.{IsSized}
+use Rattle.bats_batch.specs.steps.IsBasis.{IsBasis}
 use Rattle.bats_batch.specs.steps.Reduction.{Reduces, IsNormalized}
 use Rattle.bats_batch.proofs.KeptRows.{length-packet_row, packet_row-lt, AreRows-packets}
 use Rattle.bats_batch.proofs.Judging.{row_sum-undone, row_sum-added}

@@ -11,7 +11,8 @@ use Rattle.gf_core.proofs.RowLemmas.{row_sum_assoc, row_sum_self, row_sum-replic
 use Rattle.gf_core.proofs.CombinationLemmas.{take-row_sum, IsInSpan-row_sum, IsInSpan-trans, take-IsInSpan, zeros-triangular}
 use Rattle.bats_model.specs.declared.packet.Packet.{Packet}
 use Rattle.bats_model.specs.Kept.{IsCombination, Follows, Contradicts, packet_row}
-use Rattle.bats_batch.specs.steps.IsBasis.{IsSized, IsBasis}
+use Rattle.bats_batch.specs.Basis.{IsSized}
+use Rattle.bats_batch.specs.steps.IsBasis.{IsBasis}
 use Rattle.bats_batch.specs.steps.Reduction.{Reduces, IsLeading}
 use Rattle.bats_batch.proofs.KeptRows.{length-packet_row, take-packet_row, AreRows-packets, take-packet_rows}
 

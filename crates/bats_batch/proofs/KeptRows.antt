@@ -7,7 +7,7 @@ use Rattle.gf_core.specs.Bytes.{AreBytes}
 use Rattle.gf_core.specs.Triangular.{AreRows}
 use Rattle.bats_model.specs.declared.packet.Packet.{Packet}
 use Rattle.bats_model.specs.Kept.{packet_row}
-use Rattle.bats_batch.specs.steps.IsBasis.{IsSized}
+use Rattle.bats_batch.specs.Basis.{IsSized}
 
 pub length-packet_row : (m t : ℕ) (packet : Packet) → IsSized m t packet → length (packet_row packet) ≡ m + t
 length-packet_row m t packet size = omega (arith, length-append packet.coefs packet.payload, size.coefs, size.payload)

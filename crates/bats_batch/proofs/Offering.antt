@@ -5,12 +5,14 @@ use Rattle.std.proofs.lemmas.List.{length-map, map_push}
 use Rattle.gf_core.specs.Bytes.{AreBytes}
 use Rattle.bats_model.specs.declared.packet.Packet.{Packet}
 use Rattle.bats_model.specs.Kept.{IsCombination, Follows, Contradicts, packet_row}
+use Rattle.bats_model.specs.declared.taken.Taken.{Taken}
 use Rattle.bats_batch.specs.declared.entry.Entry.{Entry}
-use Rattle.bats_batch.specs.Basis.{BasisData}
-use Rattle.bats_batch.specs.steps.IsBasis.{IsSized, IsBasis}
+use Rattle.bats_batch.specs.Basis.{BasisData, IsSized, IsTaken, kept_with, StandsForBatch}
+use Rattle.bats_batch.specs.steps.IsBasis.{IsBasis}
 use Rattle.bats_batch.specs.steps.Reduction.{Reduces, IsLeading}
 use Rattle.bats_batch.specs.steps.Entries.{offered_packets, pivots_of, rows_of, Keeps}
 use Rattle.bats_batch.proofs.Judging.{IsTaken-dependent, IsTaken-contradiction, IsTaken-new}
+use Rattle.bats_batch.proofs.KeptOfBatches.{StandsForBatch-taken}
 use Rattle.bats_batch.proofs.Growing.{IsBasis-more, IsBasis-count, IsBasis-room}
 
 -- the entries are those of a basis
@@ -120,3 +122,27 @@ offered-room = room
 pub offered-entries : (m t size : ℕ) (entries lent : List Entry) (seen : BasisData) (packet : Packet) (reduced : List ℕ) → IsReduced m t size entries lent seen packet reduced
     → (place : ℕ) → place < m → (after : List Entry) → Keeps entries after packet place reduced → AreEntries m t after
 offered-entries = entries-more
+
+-- ---- what the basis stands for after it
+
+-- the basis as its callers see it, once an entry of the packet was gained
+pub basis_of-kept : (m t : ℕ) (entries after : List Entry) (seen : BasisData) (packet : Packet) (place : ℕ) (row : List ℕ) → basis_of m t entries ≡ seen
+    → Keeps entries after packet place row → basis_of m t after ≡ record seen { kept = seen.kept ++ packet ∷ [] }
+basis_of-kept m t entries after seen packet place row view keeps =
+    let packets : offered_packets after ≡ offered_packets entries ++ packet ∷ [] =
+    ap (λ (es : List Entry). offered_packets es) keeps.gained ∙ map_push (λ e. e.packet) entries keeps.entry
+    ∙ ap (λ (p : Packet). offered_packets entries ++ p ∷ []) keeps.same_packet in
+    ap (λ (ps : List Packet). record { m = m; t = t; kept = ps }) packets
+    ∙ ap (λ (d : BasisData). record d { kept = d.kept ++ packet ∷ [] }) view
+
+pub offered-stands : (m t size : ℕ) (entries lent : List Entry) (seen : BasisData) (packet : Packet) (reduced : List ℕ) → IsReduced m t size entries lent seen packet reduced
+    → (taken : Taken) → IsTaken seen.kept packet taken → (after : BasisData) → after ≡ record seen { kept = kept_with seen.kept packet taken }
+    → (packets : List Packet) → StandsForBatch packet.batch packets seen → StandsForBatch packet.batch (packets ++ packet ∷ []) after
+offered-stands m t size entries lent seen packet reduced is taken becomes after same packets stands =
+    let sizes : IsSized seen.m seen.t packet = record {
+      coefs = is.coefs;
+      payload = is.payload;
+      coef_bytes = is.coef_bytes;
+      payload_bytes = is.payload_bytes;
+    } in
+    StandsForBatch-taken packets packet seen after taken sizes becomes same stands

@@ -1,9 +1,10 @@
 -- What a basis holds, and what becomes of a packet that is offered to it.
-use Rattle.std.specs.Prelude.{ℕ, List, [], ◌∷◌, ◌++◌, map}
+use Rattle.std.specs.Prelude.{ℕ, ◌≡◌, List, All, [], ◌∷◌, ◌++◌, map, length}
+use Rattle.gf_core.specs.Bytes.{AreBytes}
 use Rattle.bats_model.specs.declared.packet.Packet.{Packet}
 use Rattle.bats_model.specs.declared.taken.Taken.{Taken}
 use Rattle.bats_model.specs.declared.taken.Taken.TheVariants.{Kept, Dependent, Contradiction}
-use Rattle.bats_model.specs.Kept.{IsCombination, Follows, Contradicts}
+use Rattle.bats_model.specs.Kept.{IsCombination, Follows, Contradicts, kept_of}
 
 -- how many coefficients and payload bytes a packet has, and the kept packets in order
 pub record BasisData : Type 0 where
@@ -22,3 +23,15 @@ abbrev pub kept_with : List Packet → Packet → Taken → List Packet
 kept_with kept packet Kept = kept ++ packet ∷ []
 kept_with kept packet Dependent = kept
 kept_with kept packet Contradiction = kept
+
+-- the packet has m coefficients and t payload bytes
+pub record IsSized (m t : ℕ) (packet : Packet) : Type 0 where
+  pub coefs : length packet.coefs ≡ m
+  pub payload : length packet.payload ≡ t
+  pub coef_bytes : AreBytes packet.coefs
+  pub payload_bytes : AreBytes packet.payload
+
+-- the packets are of the basis's sizes, and its kept ones are the new ones among those of this batch
+pub record StandsForBatch (batch : ℕ) (packets : List Packet) (basis : BasisData) : Type 0 where
+  pub sizes : All (IsSized basis.m basis.t) packets
+  pub kept : basis.kept ≡ kept_of batch packets

@@ -1,5 +1,5 @@
 //! The basis of one batch.
-ghost use Rattle.std.specs.Prelude.{◌≡◌, ◌≢◌, ◌<◌, ◌+◌, ◌≤◌, [], List, All, length, IfOk, OnOk, OnErr, MatchOption, slice_get, Some};
+ghost use Rattle.std.specs.Prelude.{ℕ, ◌≡◌, ◌≢◌, ◌<◌, ◌+◌, ◌≤◌, [], ◌∷◌, ◌++◌, List, All, length, IfOk, OnOk, OnErr, MatchOption, slice_get, Some};
 
 use crate::entry::{Entry, keep, write_row};
 use crate::reduction::{first_nonzero, reduce_by};
@@ -38,10 +38,11 @@ impl Model for Basis {
 
 ghost use Rattle.gf_core.specs.Bytes.{AreBytes};
 ghost use Rattle.gf_core.specs.Triangular.{AreRows, AreTriangular};
+ghost use Rattle.bats_model.specs.declared.packet.Packet.{Packet};
 ghost use Rattle.bats_model.specs.Kept.{packet_row};
 ghost use Rattle.bats_batch.specs.steps.Reduction.{Reduces, IsLeading};
 ghost use Rattle.bats_batch.specs.steps.Entries.{pivots_of, rows_of};
-ghost use Rattle.bats_batch.specs.Basis.{IsTaken, kept_with};
+ghost use Rattle.bats_batch.specs.Basis.{IsTaken, kept_with, StandsForBatch};
 
 // Makes `row` the packet's row, of this many bytes, reduced by the entries. It gives the place of the first byte that
 // is left.
@@ -75,7 +76,8 @@ fn reduce_packet<C: Ledger, L: Ledger>(
 impl Basis {
     /// A basis that keeps no packet, for packets of `m` coefficients and `t` payload bytes. It takes no memory.
     pub fn new(alloc: Global, m: u8, t: u16) -> Basis
-        ensures { result ≡ record { m = m; t = t; kept = [] } }
+        ensures value { result ≡ record { m = m; t = t; kept = [] } }
+        ensures stands { (batch : ℕ) → StandsForBatch batch [] result }
     {
         Basis {
             alloc,
@@ -136,6 +138,8 @@ impl Basis {
         ensures kept { IfOk result (λ taken. self.new
             ≡ record self.old { kept = kept_with self.old.kept packet.now taken }) }
         ensures err { OnErr result (self.new ≡ self.old) }
+        ensures stands { OnOk result ((packets : List Packet) → StandsForBatch packet.now.batch packets self.old
+            → StandsForBatch packet.now.batch (packets ++ packet.now ∷ []) self.new) }
         ensures coef_steps { coef_steps.new ≤ coef_steps.old + self.old.m }
         ensures steps { steps.new ≤ steps.old + self.old.m }
         ensures coef_steps_rise { coef_steps.old ≤ coef_steps.new }

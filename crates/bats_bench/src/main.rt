@@ -1,5 +1,6 @@
 //! Runs each row kernel once on fixed rows and prints a digest of what it leaves. With the word `time` it times each
-//! kernel beside a plain copy of as many bytes.
+//! kernel beside a plain copy of as many bytes, and with the word `offers` the offering of packets beside as many row
+//! operations.
 #![tactic(auto)]
 
 use std::env::Env;
@@ -8,20 +9,37 @@ use std::sync::ledger::Blank;
 use std::{env, io};
 
 mod digests;
+mod offering;
 mod timing;
 
-// Whether the first word of the command line is `time`.
-fn is_timed<R: Env + AllocGlobal>(rt: &R) -> io::Result<bool> {
-    match env::args(rt)?.nth(1) {
-        Some(word) => Ok(word.as_str() == "time"),
-        None => Ok(false),
-    }
+// What is printed.
+#[derive(Clone, Copy)]
+enum Task {
+    Digests,
+    Times,
+    OfferTimes,
+}
+
+// What the first word of the command line asks for.
+fn asked<R: Env + AllocGlobal>(rt: &R) -> io::Result<Task> {
+    let Some(word) = env::args(rt)?.nth(1) else {
+        return Ok(Task::Digests);
+    };
+    Ok(match word.as_str() {
+        "time" => Task::Times,
+        "offers" => Task::OfferTimes,
+        _ => Task::Digests,
+    })
 }
 
 fn main(rt: HostRuntime) -> io::Result<()> {
-    if is_timed(&rt)? {
-        timing::print_all_times(&rt)
-    } else {
-        digests::print_digests::<Brand, HostRuntime>(&rt, Blank::new(1))
+    match asked(&rt)? {
+        Task::Digests => digests::print_digests::<Brand, HostRuntime>(&rt, Blank::new(1)),
+        Task::Times => timing::print_all_times(&rt),
+        Task::OfferTimes => offering::print_offer_times::<Brand, Brand, HostRuntime>(
+            &rt,
+            Blank::new(1),
+            Blank::new(1),
+        ),
     }
 }

@@ -107,8 +107,8 @@ fn go_over(kernel: Kernel, dst: &mut [u8], src: &[u8], size: usize, rows: usize)
     }
 }
 
-// The nanoseconds since a reading of the clock.
-fn nanos_since(rt: &impl Clock, start: Instant) -> io::Result<u64> {
+/// The nanoseconds since a reading of the clock.
+pub fn nanos_since(rt: &impl Clock, start: Instant) -> io::Result<u64> {
     let gone = start.elapsed(rt)?;
     Ok(
         gone.as_secs()
@@ -157,8 +157,8 @@ fn print_times(rt: &(impl Clock + Print), dst: &mut [u8], src: &[u8], size: usiz
     Ok(())
 }
 
-// A buffer of this many bytes.
-fn buffer(alloc: Global, size: usize, byte: u8) -> io::Result<Vec<u8>>
+/// A buffer of this many bytes.
+pub fn buffer(alloc: Global, size: usize, byte: u8) -> io::Result<Vec<u8>>
     ensures { IfOk result (λ v. length v.items ≡ size) }
 {
     Ok(vec![in alloc; byte; size]?)

@@ -1,17 +1,10 @@
 -- How the reduced rows of a basis stand to its kept packets.
-use Rattle.std.specs.Prelude.{ℕ, ◌≡◌, ◌<◌, ◌+◌, List, All, map, length}
-use Rattle.gf_core.specs.Bytes.{AreBytes}
+use Rattle.std.specs.Prelude.{ℕ, ◌<◌, ◌+◌, List, All, map}
 use Rattle.gf_core.specs.Combinations.{IsInSpan}
 use Rattle.gf_core.specs.Triangular.{AreRows, AreTriangular}
 use Rattle.bats_model.specs.declared.packet.Packet.{Packet}
 use Rattle.bats_model.specs.Kept.{packet_row}
-
--- the packet has m coefficients and t payload bytes
-pub record IsSized (m t : ℕ) (packet : Packet) : Type 0 where
-  pub coefs : length packet.coefs ≡ m
-  pub payload : length packet.payload ≡ t
-  pub coef_bytes : AreBytes packet.coefs
-  pub payload_bytes : AreBytes packet.payload
+use Rattle.bats_batch.specs.Basis.{IsSized}
 
 -- the rows are triangular, with pivots among the coefficients, and they and the kept packets span the same
 pub record IsBasis (m t : ℕ) (kept : List Packet) (pivots : List ℕ) (rows : List (List ℕ)) : Type 0 where

@@ -13,7 +13,7 @@ use Rattle.bats_batch.proofs.slot.open_at.Goals as goal
 pub returns-in_err-taken-clause-full : goal.returns-in_err-taken-clause-full
 returns-in_err-taken-clause-full g c =
     let packet = c.args.packet.now in
-    let kept = ap (λ (basis : BasisData). basis.kept) c.new-basis.ensures in
+    let kept = ap (λ (basis : BasisData). basis.kept) c.new-basis.ensures.value in
     let none = none_kept c.args.slots.now.items packet.batch c.args.place c.requires.place in
     Full-exit c.from_residual.result c.in_err-taken.field-0.0
     (IsFalse c.args.has_room × IsTaken (kept_at (batches_in c.args.slots.now.items) packet.batch) packet Kept)
@@ -25,7 +25,7 @@ returns-in_err-taken-clause-full g c =
 pub returns-in_default-clause-takes : goal.returns-in_default-clause-takes
 returns-in_default-clause-takes g c =
     let packet = c.args.packet.now in
-    let kept = ap (λ (basis : BasisData). basis.kept) c.new-basis.ensures in
+    let kept = ap (λ (basis : BasisData). basis.kept) c.new-basis.ensures.value in
     Takes-none c.args.session.now c.args.slots.now.items c.args.place packet c.in_ok-taken.taken c.requires.slots c.requires.place
     (subst (λ (ps : List Packet). IsTaken ps packet c.in_ok-taken.taken) kept c.in_ok-taken.ensures.taken) c.in_default.not-Kept
 
@@ -33,7 +33,7 @@ pub returns-in_ok-add_at-in-Kept-clause-takes : goal.returns-in_ok-add_at-in-Kep
 returns-in_ok-add_at-in-Kept-clause-takes g c =
     let packet = c.args.packet.now in
     let facts = c.in_ok-taken.ensures in
-    let empty = c.new-basis.ensures in
+    let empty = c.new-basis.ensures.value in
     let kept = ap (λ (basis : BasisData). basis.kept) empty in
     subst (λ (after : List Slot). Takes c.args.session.now c.args.slots.now.items after packet c.in_ok-taken.taken)
     (sym c.in_ok-add_at-in-Kept.ensures.ok)

@@ -1,7 +1,8 @@
 use Rattle.std.proofs.Common.{◌≡◌, ◌<◌, ◌≤◌, ◌+◌, ℕ, List, Option, Some, None, length, subst, arith}
 use Rattle.std.specs.Prelude.{All, MatchOption}
+use Rattle.bats_model.specs.declared.taken.Taken.TheVariants.{Kept, Dependent, Contradiction}
 use Rattle.bats_batch.specs.steps.Reduction.{IsLeading}
-use Rattle.bats_batch.proofs.Offering.{IsReduced, counted, offered-dependent, offered-contradiction, offered-new, offered-room, offered-entries}
+use Rattle.bats_batch.proofs.Offering.{IsReduced, counted, basis_of, basis_of-kept, offered-dependent, offered-contradiction, offered-new, offered-room, offered-entries, offered-stands}
 use Rattle.bats_batch.proofs.basis.Basis.offer.Goals as goal
 
 left : (p q : Option ℕ) (row : List ℕ) → p ≡ q → MatchOption p (All (λ byte. byte ≡ 0) row) (IsLeading row) → MatchOption q (All (λ byte. byte ≡ 0) row) (IsLeading row)
@@ -170,3 +171,61 @@ invariant_of-self-2 g c =
     offered-entries c.self.inside.m c.self.inside.t (c.from.result + c.from-2.result) c.self.inside.entries.items c.deref.result.now c.args.self.now c.args.packet.now c.reduce_packet.new.row.items reduced
     c.in-Some.pivot low c.keep.new.entries.items
     (rw c.replace-row.ensures.value at c.in_ok-keep.ensures.ok)
+
+-- ---- what the basis stands for after it
+
+pub returns-in_default-clause-stands : goal.returns-in_default-clause-stands
+returns-in_default-clause-stands g c packets stands =
+    let reduced : IsReduced c.self.inside.m c.self.inside.t (c.from.result + c.from-2.result) c.self.inside.entries.items c.deref.result.now c.args.self.now c.args.packet.now c.reduce_packet.new.row.items = record {
+      basis = c.self.invariant;
+      view = c.self.view_is;
+      same = c.deref.ensures.value;
+      sum = omega (arith, c.from.ensures, c.from-2.ensures);
+      coefs = c.requires.coefs;
+      payload = c.requires.payload;
+      coef_bytes = c.in_ok-place.ensures.coef_bytes;
+      payload_bytes = c.in_ok-place.ensures.payload_bytes;
+      reduces = c.in_ok-place.ensures.reduced;
+    } in
+    offered-stands c.self.inside.m c.self.inside.t (c.from.result + c.from-2.result) c.self.inside.entries.items c.deref.result.now c.args.self.now c.args.packet.now c.reduce_packet.new.row.items reduced Dependent
+    (offered-dependent c.self.inside.m c.self.inside.t (c.from.result + c.from-2.result) c.self.inside.entries.items c.deref.result.now c.args.self.now c.args.packet.now c.reduce_packet.new.row.items reduced
+    (left c.in_ok-place.place None c.reduce_packet.new.row.items c.in_default.is c.in_ok-place.ensures.place))
+    (basis_of c.self.inside.m c.self.inside.t c.self.inside.entries.items) c.self.view_is packets stands
+
+pub returns-then-pivot-from-clause-stands : goal.returns-then-pivot-from-clause-stands
+returns-then-pivot-from-clause-stands g c packets stands =
+    let reduced : IsReduced c.self.inside.m c.self.inside.t (c.from.result + c.from-2.result) c.self.inside.entries.items c.deref.result.now c.args.self.now c.args.packet.now c.reduce_packet.new.row.items = record {
+      basis = c.self.invariant;
+      view = c.self.view_is;
+      same = c.deref.ensures.value;
+      sum = omega (arith, c.from.ensures, c.from-2.ensures);
+      coefs = c.requires.coefs;
+      payload = c.requires.payload;
+      coef_bytes = c.in_ok-place.ensures.coef_bytes;
+      payload_bytes = c.in_ok-place.ensures.payload_bytes;
+      reduces = c.in_ok-place.ensures.reduced;
+    } in
+    offered-stands c.self.inside.m c.self.inside.t (c.from.result + c.from-2.result) c.self.inside.entries.items c.deref.result.now c.args.self.now c.args.packet.now c.reduce_packet.new.row.items reduced Contradiction
+    (offered-contradiction c.self.inside.m c.self.inside.t (c.from.result + c.from-2.result) c.self.inside.entries.items c.deref.result.now c.args.self.now c.args.packet.now c.reduce_packet.new.row.items reduced c.in-Some.pivot (omega (arith, c.if-pivot-from.true, c.from-3.ensures))
+    (left c.in_ok-place.place (Some c.in-Some.pivot) c.reduce_packet.new.row.items c.in-Some.is c.in_ok-place.ensures.place))
+    (basis_of c.self.inside.m c.self.inside.t c.self.inside.entries.items) c.self.view_is packets stands
+
+pub returns-clause-stands : goal.returns-clause-stands
+returns-clause-stands g c packets stands =
+    let reduced : IsReduced c.self.inside.m c.self.inside.t (c.from.result + c.from-2.result) c.self.inside.entries.items c.deref.result.now c.args.self.now c.args.packet.now c.reduce_packet.new.row.items = record {
+      basis = c.self.invariant;
+      view = c.self.view_is;
+      same = c.deref.ensures.value;
+      sum = omega (arith, c.from.ensures, c.from-2.ensures);
+      coefs = c.requires.coefs;
+      payload = c.requires.payload;
+      coef_bytes = c.in_ok-place.ensures.coef_bytes;
+      payload_bytes = c.in_ok-place.ensures.payload_bytes;
+      reduces = c.in_ok-place.ensures.reduced;
+    } in
+    offered-stands c.self.inside.m c.self.inside.t (c.from.result + c.from-2.result) c.self.inside.entries.items c.deref.result.now c.args.self.now c.args.packet.now c.reduce_packet.new.row.items reduced Kept
+    (offered-new c.self.inside.m c.self.inside.t (c.from.result + c.from-2.result) c.self.inside.entries.items c.deref.result.now c.args.self.now c.args.packet.now c.reduce_packet.new.row.items reduced c.in-Some.pivot (omega (arith, c.if-pivot-from.false, c.from-3.ensures))
+    (left c.in_ok-place.place (Some c.in-Some.pivot) c.reduce_packet.new.row.items c.in-Some.is c.in_ok-place.ensures.place))
+    (basis_of c.self.inside.m c.self.inside.t c.keep.new.entries.items)
+    (basis_of-kept c.self.inside.m c.self.inside.t c.self.inside.entries.items c.keep.new.entries.items c.args.self.now c.args.packet.now c.in-Some.pivot
+    c.replace-row.result.items c.self.view_is c.in_ok-keep.ensures.ok) packets stands

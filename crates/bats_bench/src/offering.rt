@@ -1,0 +1,190 @@
+//! Times the offering of packets to a `Held` beside as many row operations.
+ghost use Rattle.std.specs.Prelude.{◌≡◌, ◌<◌};
+
+use crate::timing::{buffer, nanos_since};
+use bats_batch::Held;
+use bats_model::{Bytes, Packet, Session};
+use gf_core::Gf;
+use gf_rows::{Steps, add_scaled, scale_row};
+use std::alloc::{AllocError, AllocGlobal, Global};
+use std::io;
+use std::sync::ledger::{Blank, Ledger};
+use std::time::{Clock, Instant};
+
+// Packets of a batch, which are their coefficients too.
+const BATCH_SIZE: usize = 16;
+
+// Bytes of a payload.
+const SYMBOL_SIZE: usize = 1024;
+
+// Bytes of a packet's coefficients and payload as one row.
+const ROW_SIZE: usize = BATCH_SIZE + SYMBOL_SIZE;
+
+const PACKETS: u32 = 3680;
+
+// How often each of both is timed, in turn. The best round counts.
+const ROUNDS: u32 = 25;
+
+// A fixed sequence of bytes without a pattern, by a linear congruence.
+#[derive(Drop)]
+struct Draws {
+    state: u32,
+}
+
+impl Draws {
+    fn byte(&mut self) -> u8 {
+        self.state = self
+            .state
+            .wrapping_mul(1_664_525)
+            .wrapping_add(1_013_904_223);
+        (self.state >> 24) as u8
+    }
+
+    fn bytes(&mut self, alloc: Global, size: usize) -> Result<Bytes, AllocError> {
+        let mut bytes = Bytes::new(alloc);
+        for _ in 0..size {
+            bytes.push(self.byte())?;
+        }
+        Ok(bytes)
+    }
+}
+
+// Packets of 230 batches, 16 a batch.
+fn packets(alloc: Global) -> Result<Vec<Packet>, AllocError> {
+    let mut draws = Draws { state: 1 };
+    let mut packets = Vec::new(alloc);
+    for i in 0..PACKETS {
+        let coefs = draws.bytes(alloc, BATCH_SIZE)?;
+        let payload = draws.bytes(alloc, SYMBOL_SIZE)?;
+        packets.push(Packet {
+            batch: i / BATCH_SIZE as u32,
+            coefs,
+            payload,
+        })?;
+    }
+    Ok(packets)
+}
+
+// Offers the packets that are of the session's shape, until one isn't taken.
+fn offer_all<C: Ledger, L: Ledger>(
+    held: &mut Held,
+    packets: &[Packet],
+    coef_steps: &mut Steps<C>,
+    steps: &mut Steps<L>,
+)
+    requires m { held.old.session.m ≡ 16 }
+    requires t { held.old.session.t ≡ 1024 }
+{
+    for packet in packets {
+        if packet.coefs.len() == BATCH_SIZE && packet.payload.len() == SYMBOL_SIZE {
+            let taken = held.offer(packet, coef_steps, steps);
+            if taken.is_err() {
+                return;
+            }
+        }
+    }
+}
+
+// Adds multiples of the rows before it to a row, and scales it.
+fn reduce_row(before: &[u8], row: &mut [u8]) {
+    let mut factor = 2;
+    for other in before.chunks_exact(ROW_SIZE) {
+        if other.len() == row.len() {
+            add_scaled(row, Gf::new(factor), other);
+        }
+        factor = if factor < 255 { factor + 1 } else { 2 };
+    }
+    if factor > 0 {
+        scale_row(row, Gf::new(factor));
+    }
+}
+
+// The row operations that one batch takes at most: a sum for each kept packet before, and a scaling.
+fn reduce_batch(batch: &mut [u8]) {
+    for rank in 0..BATCH_SIZE {
+        let at = rank * ROW_SIZE;
+        if at <= batch.len() {
+            let (before, rest) = batch.split_at_mut(at);
+            if ROW_SIZE <= rest.len() {
+                reduce_row(before, &mut rest[..ROW_SIZE]);
+            }
+        }
+    }
+}
+
+fn reduce_all(rows: &mut [u8]) {
+    for batch in rows.chunks_exact_mut(BATCH_SIZE * ROW_SIZE) {
+        reduce_batch(batch);
+    }
+}
+
+// The nanoseconds of offering all packets to a `Held` of the session, and how many are kept then.
+fn offer_time<C: Ledger, L: Ledger>(
+    rt: &(impl Clock + AllocGlobal),
+    session: Session,
+    packets: &[Packet],
+    coef_steps: &mut Steps<C>,
+    steps: &mut Steps<L>,
+) -> io::Result<(u64, u32)>
+    requires m { session.m ≡ 16 }
+    requires t { session.t ≡ 1024 }
+{
+    let mut held = Held::new(rt.alloc(), session);
+    let start = Instant::now(rt)?;
+    offer_all(&mut held, packets, coef_steps, steps);
+    let time = nanos_since(rt, start)?;
+    Ok((time, held.rows()))
+}
+
+// The nanoseconds of as many row operations.
+fn reduce_time(rt: &impl Clock, rows: &mut [u8]) -> io::Result<u64> {
+    let start = Instant::now(rt)?;
+    reduce_all(rows);
+    nanos_since(rt, start)
+}
+
+// Times both in turn, several times, and prints how many packets were kept and the best times.
+fn print_best<C: Ledger, L: Ledger>(
+    rt: &(impl Clock + Print + AllocGlobal),
+    session: Session,
+    coef_steps: &mut Steps<C>,
+    steps: &mut Steps<L>,
+) -> io::Result<()>
+    requires m { session.m ≡ 16 }
+    requires t { session.t ≡ 1024 }
+{
+    let packets = packets(rt.alloc())?;
+    let mut rows = buffer(rt.alloc(), packets.len().saturating_mul(ROW_SIZE), 0x5A)?;
+    let mut best_offer = u64::MAX;
+    let mut best_rows = u64::MAX;
+    let mut least_kept = PACKETS;
+    for _ in 0..ROUNDS {
+        let (time, kept) = offer_time(rt, session, &packets, coef_steps, steps)?;
+        best_offer = best_offer.min(time);
+        least_kept = least_kept.min(kept);
+        best_rows = best_rows.min(reduce_time(rt, &mut rows)?);
+    }
+    println!(rt; "{least_kept} {best_offer} {best_rows}")
+}
+
+/// Times offering 3,680 packets of 230 batches beside as many row operations as that takes. The line has the number of
+/// kept packets, and the nanoseconds of both.
+pub fn print_offer_times<C: Ledger, L: Ledger, R: Clock + Print + AllocGlobal>(
+    rt: &R,
+    coef_blank: Blank,
+    blank: Blank,
+) -> io::Result<()>
+    requires coef_name { coef_blank.name ≡ C.name }
+    requires coef_parts { coef_blank.parts ≡ C.parts }
+    requires coef_some { 0 < coef_blank.parts }
+    requires name { blank.name ≡ L.name }
+    requires parts { blank.parts ≡ L.parts }
+    requires some { 0 < blank.parts }
+{
+    let mut coef_steps = Steps::<C>::new(coef_blank);
+    let mut steps = Steps::<L>::new(blank);
+    match Session::new(16, 1024, 1_000_000, 0, false, [0; 16]) {
+        Ok(session) => print_best(rt, session, &mut coef_steps, &mut steps),
+        Err(_) => Ok(()),
+    }
+}
