@@ -89,7 +89,7 @@ impl Basis {
     }
 
     /// What would become of a packet of M coefficients and T payload bytes of the basis's batch. It keeps nothing.
-    pub fn judge<C: Ledger, L: Ledger>(
+    pub(crate) fn judge<C: Ledger, L: Ledger>(
         &mut self,
         packet: &Packet,
         coef_steps: &mut Steps<C>,
