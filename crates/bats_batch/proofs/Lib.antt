@@ -10,3 +10,4 @@ pub mod RowCounts
 pub mod Places
 pub mod Offers
 pub mod HeldAgreement
+pub mod Contradictions

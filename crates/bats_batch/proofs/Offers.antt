@@ -292,3 +292,19 @@ basis-at session slots number place slot are stands =
     sym (ap (λ (b : HeldBatch). b.kept) (get_or-map batch_in slots place slot no_batch within))
     ∙ sym (kept_at-stands (batches_in slots) are.rising number place stands) in
     (λ i. record { m = is.m i; t = is.t i; kept = kept i }, is.some)
+
+-- the basis at a place keeps packets of the batch there alone, and all that are held of it
+pub basis-of_place : (session : SessionData) (slots : List Slot) (place : ℕ) (slot : Slot) → AreSlots session slots → place < length slots
+    → let basis = (get_or slots place slot).basis in
+    let number = (batch_at (batches_in slots) place).number in
+    AreOf number basis.kept × (kept_at (batches_in slots) number ≡ basis.kept)
+basis-of_place session slots place slot are within =
+    let found : Slot = get_or slots place slot in
+    let there : batch_at (batches_in slots) place ≡ batch_in found = get_or-map batch_in slots place slot no_batch within in
+    let stands : StandsAt (batches_in slots) (batch_at (batches_in slots) place).number place = record {
+      within = omega (arith, within, length-map slots batch_in);
+      same = refl;
+    } in (
+      subst (λ (b : HeldBatch). AreOf b.number found.basis.kept) (sym there) (are.each place slot within).own,
+      kept_at-stands (batches_in slots) are.rising (batch_at (batches_in slots) place).number place stands ∙ ap (λ (b : HeldBatch). b.kept) there,
+    )

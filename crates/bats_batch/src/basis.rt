@@ -42,7 +42,7 @@ ghost use Rattle.bats_model.specs.declared.packet.Packet.{Packet};
 ghost use Rattle.bats_model.specs.Kept.{packet_row};
 ghost use Rattle.bats_batch.specs.steps.Reduction.{Reduces, IsLeading};
 ghost use Rattle.bats_batch.specs.steps.Entries.{pivots_of, rows_of};
-ghost use Rattle.bats_batch.specs.Basis.{IsTaken, kept_with, StandsForBatch};
+ghost use Rattle.bats_batch.specs.Basis.{IsSized, IsTaken, kept_with, StandsForBatch};
 
 // Makes `row` the packet's row, of this many bytes, reduced by the entries. It gives the place of the first byte that
 // is left.
@@ -89,7 +89,7 @@ impl Basis {
     }
 
     /// What would become of a packet of M coefficients and T payload bytes of the basis's batch. It keeps nothing.
-    pub fn judge<C: Ledger, L: Ledger>(
+    pub(crate) fn judge<C: Ledger, L: Ledger>(
         &mut self,
         packet: &Packet,
         coef_steps: &mut Steps<C>,
@@ -185,7 +185,8 @@ impl Basis {
     /// The kept packet at this place, as it was offered.
     pub fn kept(&self, i: u32) -> &Packet
         requires { i < length self.now.kept }
-        ensures { slice_get self.now.kept i ≡ Some result.now }
+        ensures value { slice_get self.now.kept i ≡ Some result.now }
+        ensures sized { IsSized self.now.m self.now.t result.now }
     {
         &self.entries[i as usize].packet
     }

@@ -1,9 +1,9 @@
 //! The bases of all batches that have a kept packet.
-ghost use Rattle.std.specs.Prelude.{◌≡◌, ◌≢◌, ◌<◌, ◌≤◌, ◌+◌, ◌∷◌, ◌++◌, [], List, length, IfOk, IfErr, OnOk, OnErr, MatchOption};
+ghost use Rattle.std.specs.Prelude.{◌≡◌, ◌≢◌, ◌<◌, ◌≤◌, ◌+◌, ◌∷◌, ◌++◌, [], List, All, length, IfOk, IfErr, OnOk, OnErr, MatchOption};
 ghost use Rattle.bats_model.specs.declared.packet.Packet.{Packet};
 ghost use Rattle.bats_model.specs.Kept.{kept_count};
 ghost use Rattle.bats_batch.specs.Basis.{IsTaken};
-ghost use Rattle.bats_batch.specs.Held.{StandsFor, kept_at, row_count, max_kept, batch_at, basis_with};
+ghost use Rattle.bats_batch.specs.Held.{StandsFor, HaveRisingNumbers, kept_at, row_count, max_kept, batch_at, basis_with};
 ghost use Rattle.bats_batch.specs.declared.held.HeldEnd.TheVariants.{Memory};
 ghost use Rattle.bats_batch.specs.steps.Slots.{gain_of};
 
@@ -148,6 +148,7 @@ impl Held {
     pub fn batches(&self) -> u32
         ensures value { result ≡ length self.now.batches }
         ensures limit { result ≤ max_kept }
+        ensures rising { HaveRisingNumbers self.now.batches }
     {
         self.slots.len() as u32
     }
@@ -160,11 +161,13 @@ impl Held {
         self.slots[i as usize].number
     }
 
-    /// The basis of the held batch at place `i`.
+    /// The basis of the held batch at place `i`, which keeps packets of that batch alone.
     pub fn basis_at(&self, i: u32) -> &Basis
         requires { i < length self.now.batches }
         ensures value { result.now ≡ basis_with self.now.session (batch_at self.now.batches i).kept }
         ensures some { 0 < length result.now.kept }
+        ensures own { All (λ packet. packet.batch ≡ (batch_at self.now.batches i).number) result.now.kept }
+        ensures at { kept_at self.now.batches (batch_at self.now.batches i).number ≡ result.now.kept }
     {
         &self.slots[i as usize].basis
     }

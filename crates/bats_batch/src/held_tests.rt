@@ -23,7 +23,8 @@ fn packet_of(alloc: Global, batch: u32, coefs: &[u8], payload: &[u8]) -> Result<
     })
 }
 
-// Offers a packet, and tells whether the answer is what is expected.
+// Offers a packet, and tells whether the answer is what is expected. It is offered once more where memory runs out, since
+// that changes nothing.
 fn is_taken_so<C: Ledger, L: Ledger>(
     alloc: Global,
     held: &mut Held,
@@ -37,7 +38,10 @@ fn is_taken_so<C: Ledger, L: Ledger>(
     ensures session { held.new.session ≡ held.old.session }
 {
     let packet = packet_of(alloc, packet.0, packet.1, packet.2)?;
-    let taken = held.offer(&packet, coef_steps, steps);
+    let mut taken = held.offer(&packet, coef_steps, steps);
+    if taken == Err(HeldEnd::Memory) {
+        taken = held.offer(&packet, coef_steps, steps);
+    }
     Ok(taken == expected)
 }
 

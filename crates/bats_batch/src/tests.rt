@@ -24,6 +24,52 @@ fn packet_of(alloc: Global, coefs: [u8; 2], payload: [u8; 2]) -> Result<Packet, 
     })
 }
 
+// Judges a packet of batch 7, and once more where memory runs out, since that changes nothing.
+fn judge_again<C: Ledger, L: Ledger>(
+    basis: &mut Basis,
+    packet: &Packet,
+    coef_steps: &mut Steps<C>,
+    steps: &mut Steps<L>,
+) -> Result<Taken, AllocError>
+    requires coefs { length packet.now.coefs ≡ 2 }
+    requires payload { length packet.now.payload ≡ 2 }
+    requires of_batch { packet.now.batch ≡ 7 }
+    requires m { basis.old.m ≡ 2 }
+    requires t { basis.old.t ≡ 2 }
+    requires batch { All (λ other. other.batch ≡ 7) basis.old.kept }
+    ensures m { basis.new.m ≡ 2 }
+    ensures t { basis.new.t ≡ 2 }
+    ensures batch { All (λ other. other.batch ≡ 7) basis.new.kept }
+{
+    match basis.judge(packet, coef_steps, steps) {
+        Ok(taken) => Ok(taken),
+        Err(_) => Ok(basis.judge(packet, coef_steps, steps)?),
+    }
+}
+
+// Offers a packet of batch 7, and once more where memory runs out, since that changes nothing.
+fn offer_again<C: Ledger, L: Ledger>(
+    basis: &mut Basis,
+    packet: &Packet,
+    coef_steps: &mut Steps<C>,
+    steps: &mut Steps<L>,
+) -> Result<Taken, AllocError>
+    requires coefs { length packet.now.coefs ≡ 2 }
+    requires payload { length packet.now.payload ≡ 2 }
+    requires of_batch { packet.now.batch ≡ 7 }
+    requires m { basis.old.m ≡ 2 }
+    requires t { basis.old.t ≡ 2 }
+    requires batch { All (λ other. other.batch ≡ 7) basis.old.kept }
+    ensures m { basis.new.m ≡ 2 }
+    ensures t { basis.new.t ≡ 2 }
+    ensures batch { All (λ other. other.batch ≡ 7) basis.new.kept }
+{
+    match basis.offer(packet, coef_steps, steps) {
+        Ok(taken) => Ok(taken),
+        Err(_) => Ok(basis.offer(packet, coef_steps, steps)?),
+    }
+}
+
 // Judges and offers a packet of batch 7, and tells whether both say what is expected.
 fn is_taken_so<C: Ledger, L: Ledger>(
     alloc: Global,
@@ -41,8 +87,8 @@ fn is_taken_so<C: Ledger, L: Ledger>(
 {
     let (coefs, payload, expected) = offered;
     let packet = packet_of(alloc, coefs, payload)?;
-    let judged = basis.judge(&packet, coef_steps, steps)?;
-    let taken = basis.offer(&packet, coef_steps, steps)?;
+    let judged = judge_again(basis, &packet, coef_steps, steps)?;
+    let taken = offer_again(basis, &packet, coef_steps, steps)?;
     Ok(judged == expected && taken == expected)
 }
 
