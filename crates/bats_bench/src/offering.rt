@@ -146,7 +146,7 @@ struct Offered {
 }
 
 impl Offered {
-    // The least of each of both.
+    // The least of both, number by number.
     fn with(self, other: Offered) -> Offered {
         Offered {
             kept: self.kept.min(other.kept),
@@ -156,8 +156,8 @@ impl Offered {
     }
 }
 
-// Offers all packets to a `Held` that takes the memory of the round before, and then to another, which needs fresh memory
-// since the first still has the other.
+// Offers all packets to a `Held` that takes the memory of the round before, and then to another, which needs fresh
+// memory since the first is still held.
 fn offer_twice<C: Ledger, L: Ledger>(
     rt: &(impl Clock + AllocGlobal),
     session: Session,
@@ -176,8 +176,8 @@ fn offer_twice<C: Ledger, L: Ledger>(
     Ok(Offered { kept, again, fresh })
 }
 
-// A `Held` with all packets. Below its memory lies as much that was used and given back, and what is below memory in use
-// isn't given back to the system.
+// A `Held` with all packets. Below its memory lies as much that was used and given back, and since it is below memory
+// in use, the C library keeps it.
 fn hold_above<C: Ledger, L: Ledger>(
     alloc: Global,
     session: Session,
