@@ -24,11 +24,11 @@ use Rattle.bats_model.proofs.UnitVectors.{length-unit_vector}
 use Rattle.bats_words.specs.declared.source_options.SourceOptions.{SourceOptions}
 use Rattle.tool_run.specs.declared.status.Status.TheVariants as statuses
 use Rattle.bats_words.specs.Options.{HasRanges}
-use Rattle.bats_tool.specs.FileSession.{session_for}
+use Rattle.tool_source.specs.FileSession.{session_for}
 use Rattle.tool_run.specs.Ending.{Ending}
-use Rattle.bats_tool.specs.Source.{source_ending}
-use Rattle.bats_tool.specs.Sink.{IsSinkEnding}
-use Rattle.bats_tool.proofs.Counts.{length-within, length-beyond}
+use Rattle.tool_source.specs.Source.{source_ending}
+use Rattle.tool_sink.specs.Sink.{IsSinkEnding}
+use Rattle.tool_source.proofs.Counts.{length-within, length-beyond}
 use Rattle.bats_tool.proofs.SentPackets.{Sends, sent_packet, batch_packets, sent_packets, packets_for, All-sent, file_for}
 use Rattle.bats_tool.proofs.GivenBack.{GivesBack, sent_of, AgreesWithAll-among, gives_back_among}
 

@@ -21,10 +21,10 @@ use Rattle.bats_format.proofs.Refusals.{no_file_refused}
 use Rattle.bats_words.specs.declared.source_options.SourceOptions.{SourceOptions}
 use Rattle.tool_run.specs.declared.status.Status.TheVariants as statuses
 use Rattle.bats_words.specs.Options.{HasRanges}
-use Rattle.bats_tool.specs.FileSession.{session_for}
+use Rattle.tool_source.specs.FileSession.{session_for}
 use Rattle.tool_run.specs.Ending.{Ending}
-use Rattle.bats_tool.specs.Source.{source_ending}
-use Rattle.bats_tool.specs.Sink.{SinkIsNotBuilt, IsSinkEnding, answer_ending}
+use Rattle.tool_source.specs.Source.{source_ending}
+use Rattle.tool_sink.specs.Sink.{SinkIsNotBuilt, IsSinkEnding, answer_ending}
 use Rattle.bats_tool.proofs.OneEnding.{refused}
 use Rattle.bats_tool.proofs.SentPackets.{Sends, packets_for, AgreesWithAll-sent, IsFile-for, file_for}
 

@@ -1,16 +1,4 @@
-pub mod Ranges
-pub mod Loops
-pub mod Endings
-pub mod Counts
-pub mod Sourcing
 pub mod Usage
-pub mod RecordsRead
-pub mod ReaderAnswers
-pub mod Received
-pub mod ShowLines
-pub mod ShowSteps
-pub mod SinkAnswers
-pub mod SinkAttempts
 pub mod PromisesKept
 pub mod OneEnding
 pub mod SentPackets

@@ -21,9 +21,9 @@ use Rattle.bats_words.specs.declared.command.Command.{Command}
 use Rattle.bats_words.specs.declared.command.Command.TheVariants as commands
 use Rattle.tool_run.specs.declared.status.Status.TheVariants as statuses
 use Rattle.tool_run.specs.Ending.{Ending}
-use Rattle.bats_tool.specs.Reading.{IsReading, refused_ending}
-use Rattle.bats_tool.specs.Show.{IsShowEnding, show_ending}
-use Rattle.bats_tool.specs.Sink.{ArePlain, SinkAnswers, SinkRefuses, SinkIsNotBuilt, IsSinkEnding, answer_ending, file_line, need_more_line}
+use Rattle.tool_records.specs.Reading.{IsReading, refused_ending}
+use Rattle.tool_stream.specs.Show.{IsShowEnding, show_ending}
+use Rattle.tool_sink.specs.Sink.{ArePlain, SinkAnswers, SinkRefuses, SinkIsNotBuilt, IsSinkEnding, answer_ending, file_line, need_more_line}
 use Rattle.bats_tool.specs.Promises.{IsEnding}
 
 -- both endings have one status and one notes line, and one output, but for need-more

@@ -5,10 +5,10 @@ use Rattle.tool_run.proofs.Begun.{IsBegun-whole, reads_nothing-keeps, reads_file
 use Rattle.bats_words.specs.declared.command.Command.{Command}
 use Rattle.bats_words.specs.declared.command.Command.TheVariants as commands
 use Rattle.bats_words.specs.Options.{source_options}
-use Rattle.bats_tool.specs.Source.{source_ending, most_read}
-use Rattle.bats_tool.specs.Sink.{IsSinkEnding}
+use Rattle.tool_source.specs.Source.{source_ending, most_read}
+use Rattle.tool_sink.specs.Sink.{IsSinkEnding}
 use Rattle.bats_tool.specs.Promises.{promise_of, usage_ending}
-use Rattle.bats_tool.proofs.ShowLines.{show_promise-keeps}
+use Rattle.tool_stream.proofs.ShowLines.{show_promise-keeps}
 
 pub promise_of-keeps : (command : Option Command) → Keeps (promise_of command)
 promise_of-keeps None = reads_nothing-keeps usage_ending

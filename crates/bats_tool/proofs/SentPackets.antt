@@ -23,11 +23,11 @@ use Rattle.bats_encoder.proofs.Agreements.{Agrees-coded, length-coded_payload}
 use Rattle.bats_words.specs.declared.source_options.SourceOptions.{SourceOptions}
 use Rattle.tool_run.specs.declared.status.Status.TheVariants as statuses
 use Rattle.bats_words.specs.Options.{HasRanges}
-use Rattle.bats_tool.specs.FileSession.{session_for}
-use Rattle.bats_tool.specs.Source.{source_output, packet_records, batch_records, coded_record}
+use Rattle.tool_source.specs.FileSession.{session_for}
+use Rattle.tool_source.specs.Source.{source_output, packet_records, batch_records, coded_record}
 use Rattle.tool_run.specs.Ending.{Ending}
-use Rattle.bats_tool.specs.Source.{source_ending}
-use Rattle.bats_tool.proofs.Endings.{done_ending, source_ending-done}
+use Rattle.tool_source.specs.Source.{source_ending}
+use Rattle.tool_source.proofs.Endings.{done_ending, source_ending-done}
 
 -- ---- packets, one after another
 

@@ -9,15 +9,15 @@ use Rattle.bats_words.specs.declared.command.Command.TheVariants as commands
 use Rattle.bats_words.specs.declared.source_options.SourceOptions.{SourceOptions}
 use Rattle.tool_run.specs.declared.status.Status.TheVariants as statuses
 use Rattle.bats_words.specs.Options.{source_options}
-use Rattle.bats_tool.specs.FileSession.{session_for}
+use Rattle.tool_source.specs.FileSession.{session_for}
 use Rattle.bats_words.specs.Words.{command_of}
 use Rattle.tool_run.specs.Ending.{Ending}
-use Rattle.bats_tool.specs.Source.{source_ending}
-use Rattle.bats_tool.specs.Sink.{IsSinkEnding}
+use Rattle.tool_source.specs.Source.{source_ending}
+use Rattle.tool_sink.specs.Sink.{IsSinkEnding}
 use Rattle.bats_tool.specs.Promises.{IsEnding}
 use Rattle.bats_words.proofs.CommandRanges.{command_of-ranges}
 use Rattle.bats_tool.proofs.CommandSeeds.{source_seed}
-use Rattle.bats_tool.proofs.Endings.{source_ending-too_long}
+use Rattle.tool_source.proofs.Endings.{source_ending-too_long}
 use Rattle.bats_tool.proofs.SentPackets.{Sends}
 use Rattle.bats_tool.proofs.GivenBack.{IsFileOrNone, output_given_back}
 use Rattle.bats_tool.proofs.AllSymbols.{output_comes_back}

@@ -1,12 +1,1 @@
-pub mod FileSession
-pub mod Source
-pub mod Ready
-pub mod Reading
-pub mod ReadsRecords
-pub mod Sink
-pub mod Show
 pub mod Promises
-pub mod Receiving
-pub mod Answering
-pub mod Refused
-pub mod Showing

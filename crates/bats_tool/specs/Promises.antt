@@ -6,9 +6,9 @@ use Rattle.tool_run.specs.Promise.{Promise, reads_nothing}
 use Rattle.bats_words.specs.declared.command.Command.{Command}
 use Rattle.bats_words.specs.declared.command.Command.TheVariants as commands
 use Rattle.bats_words.specs.Options.{source_options}
-use Rattle.bats_tool.specs.Source.{source_promise}
-use Rattle.bats_tool.specs.Sink.{sink_promise}
-use Rattle.bats_tool.specs.Show.{show_promise}
+use Rattle.tool_source.specs.Source.{source_promise}
+use Rattle.tool_sink.specs.Sink.{sink_promise}
+use Rattle.tool_stream.specs.Show.{show_promise}
 
 -- how words end that are no command
 abbrev pub usage_ending : Ending

@@ -14,10 +14,10 @@ ghost use Rattle.bats_words.specs.declared.command.Command.TheVariants as comman
 ghost use Rattle.tool_run.specs.declared.status.Status.TheVariants as statuses;
 ghost use Rattle.bats_words.specs.declared.source_options.SourceOptions.{SourceOptions};
 ghost use Rattle.bats_words.specs.Options.{HasRanges};
-ghost use Rattle.bats_tool.specs.FileSession.{session_for};
+ghost use Rattle.tool_source.specs.FileSession.{session_for};
 ghost use Rattle.bats_words.specs.Words.{command_of};
 ghost use Rattle.tool_run.specs.Ending.{Ending};
-ghost use Rattle.bats_tool.specs.Source.{source_ending};
+ghost use Rattle.tool_source.specs.Source.{source_ending};
 ghost use Rattle.bats_tool.specs.Promises.{IsEnding};
 
 /// The endings that words and input allow have one status and one notes line, and one output, but for need-more, where

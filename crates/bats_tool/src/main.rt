@@ -6,15 +6,8 @@ ghost use Rattle.bats_words.specs.Words.{command_of};
 ghost use Rattle.bats_tool.specs.Promises.{promise_of};
 ghost use Rattle.tool_run.specs.Run.{RunsBy};
 
-mod answers;
 mod laws;
-mod receive;
-mod records;
-mod refusals;
 mod run;
-mod show;
-mod sink;
-mod source;
 #[cfg(test)]
 mod tests;
 

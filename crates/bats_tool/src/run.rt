@@ -6,9 +6,6 @@ ghost use Rattle.tool_run.specs.Streams.{Ends};
 ghost use Rattle.bats_words.specs.Words.{command_of};
 ghost use Rattle.bats_tool.specs.Promises.{promise_of, usage_ending};
 
-use crate::show::show;
-use crate::sink::sink;
-use crate::source::source;
 use bats_io::{Sink, Source};
 use bats_words::{Command, SourceOptions, parse};
 use gf_rows::Steps;
@@ -16,6 +13,9 @@ use std::alloc::Global;
 use std::sync::ledger::Ledger;
 use std::thread::Threads;
 use tool_run::{Finish, Status, Stop, conclude, refuse};
+use tool_sink::sink;
+use tool_source::source;
+use tool_stream::show;
 
 // How words end that are no command: nothing is read or written.
 fn usage(alloc: Global) -> Result<Finish, Stop>

@@ -3,3 +3,5 @@ pub mod Begun
 pub mod FilesRead
 pub mod Outcomes
 pub mod Writing
+pub mod Ranges
+pub mod Loops

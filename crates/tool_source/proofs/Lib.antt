@@ -1,0 +1,3 @@
+pub mod Endings
+pub mod Counts
+pub mod Sourcing

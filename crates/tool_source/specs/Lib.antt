@@ -1,0 +1,3 @@
+pub mod FileSession
+pub mod Source
+pub mod steps

@@ -1,0 +1,2 @@
+pub mod ShowLines
+pub mod ShowSteps
