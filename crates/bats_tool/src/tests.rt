@@ -1,8 +1,10 @@
 // Runs of the program over streams in memory.
 ghost use Rattle.std.specs.Prelude.{◌≤◌};
 
-mod show;
-mod sink;
+mod answers;
+mod faults;
+mod limits;
+mod refusals;
 
 use crate::run_over;
 use bats_io::{MemSink, MemSource};
@@ -23,12 +25,20 @@ const SMALL_OUTPUT: [u8; 50] = [
 ];
 
 // The header and the two packets of the file 01 07 01 00 02, whose one batch mixes symbols 2, 4, 0 and 3.
-const SAMPLED_OUTPUT: [u8; 48] = [
-    0x42, 0x54, 0x53, 0x01, 0x02, 0x01, 0x00, 0x01, 0, 0, 0, 0, 0, 0, 0, 5, 0, 0, 0, 0, 0, 0, 0, 0,
-    0, 0, 0, 0, 0, 0, 0, 0, 0x50, 0, 0, 0, 0, 0x01, 0x00, 0xCF, 0x50, 0, 0, 0, 0, 0x00, 0x01, 0x8F,
-];
+const SAMPLED_OUTPUT: &[u8] =
+    b"BTS\x01\x02\x01\0\x01\0\0\0\0\0\0\0\x05\0\0\0\0\0\0\0\0\0\0\0\0\0\0\0\0P\0\0\0\0\x01\0\xcfP\0\0\0\0\0\x01\x8f";
 
-const SMALL_LINE: &str = "source: length=4 symbols=2 batches=1 packets=2\n";
+// A change of the small packet file that changes nothing.
+const AS_IT_IS: (usize, u8) = (0, b'B');
+
+const NOT_BUILT: &str = "bats: not built\n";
+
+// The lines that `show` writes of the small packet file.
+const LINES: [&str; 3] = [
+    "header at=0 m=2 t=2 length=4 symbols=2 systematic=1 table=0 seed=00000000000000000000000000000000\n",
+    "packet at=32 batch=0 coefs=0100 payload=0102\n",
+    "packet at=41 batch=0 coefs=0001 payload=0304\n",
+];
 
 // What a run left.
 #[derive(Drop)]
@@ -74,15 +84,26 @@ fn make_run<R: AllocGlobal + Threads + Sync>(
     })
 }
 
-// The header of a session with M = T = 2, systematic and with the seed zero, for a file of so many bytes, and these
-// packets of batch 0, each as two coefficients and two bytes of payload.
-fn input_of(alloc: Global, length: u8, packets: &[[u8; 4]]) -> Result<Vec<u8>, AllocError> {
-    let mut bytes = Vec::from_slice(alloc, &SMALL_OUTPUT[..15])?;
-    bytes.push(length)?;
-    bytes.extend_from_slice(&[0; 16])?;
-    for packet in packets {
-        bytes.extend_from_slice(&[b'P', 0, 0, 0, 0])?;
-        bytes.extend_from_slice(packet)?;
+// The first bytes of the small packet file, so many, with one of them changed, and then more bytes.
+fn input_of(
+    alloc: Global,
+    front: usize,
+    change: (usize, u8),
+    more: &[u8],
+) -> Result<Vec<u8>, AllocError> {
+    let mut bytes = Vec::new(alloc);
+    for (place, byte) in SMALL_OUTPUT.iter().take(front).enumerate() {
+        bytes.push(if place == change.0 { change.1 } else { *byte })?;
+    }
+    bytes.extend_from_slice(more)?;
+    Ok(bytes)
+}
+
+// The first lines that `show` writes of the small packet file, so many.
+fn first_lines(alloc: Global, count: usize) -> Result<Vec<u8>, AllocError> {
+    let mut bytes = Vec::new(alloc);
+    for line in LINES.iter().take(count) {
+        bytes.extend_from_slice(line.as_bytes())?;
     }
     Ok(bytes)
 }
@@ -92,124 +113,4 @@ fn assert_left<R: Abort>(rt: &R, run: &Ran, status: Status, output: &[u8], notes
     assert_eq!(rt; run.notes.written(), notes.as_bytes(), "instead of {notes}");
     assert_eq!(rt; run.status, status, "at {notes}");
     assert_eq!(rt; run.output.written(), output, "at {notes}");
-}
-
-#[test]
-fn sends_a_small_file(rt: HostRuntime) -> Result<(), Fail> {
-    for most in [1, 3, 1000] {
-        let run = make_run(&rt, SMALL, &[1, 2, 3, 4], most, [0, 0, 0])?;
-        assert_eq!(rt; run.status, Status::Done);
-        assert_eq!(rt; run.output.written(), SMALL_OUTPUT.as_slice());
-        assert_eq!(rt; run.notes.written(), SMALL_LINE.as_bytes());
-    }
-    Ok(())
-}
-
-#[test]
-fn sends_an_empty_file(rt: HostRuntime) -> Result<(), Fail> {
-    let line =
-        "source --m 2 --t 2 --seed 00000000000000000000000000000000 --batches 0 --systematic";
-    let run = make_run(&rt, line, &[], 1000, [0, 0, 0])?;
-    assert_eq!(rt; run.status, Status::Done);
-    let mut header = [0; 32];
-    header.copy_from_slice(&SMALL_OUTPUT[..32]);
-    header[15] = 0;
-    assert_eq!(rt; run.output.written(), header.as_slice());
-    assert_eq!(rt;
-        run.notes.written(),
-        b"source: length=0 symbols=0 batches=0 packets=0\n".as_slice()
-    );
-    Ok(())
-}
-
-#[test]
-fn refuses_a_file_of_too_many_symbols(rt: HostRuntime) -> Result<(), Fail> {
-    let line = "source --m 1 --t 1 --seed 00000000000000000000000000000000 --batches 0";
-    let run = make_run(&rt, line, &[7; 4097], 1000, [0, 0, 0])?;
-    assert_eq!(rt; run.status, Status::Limit);
-    assert!(rt; run.output.written().is_empty());
-    assert_eq!(rt; run.notes.written(), b"bats: limit symbols\n".as_slice());
-    let run = make_run(&rt, line, &[7; 4096], 1000, [0, 0, 0])?;
-    assert_eq!(rt; run.status, Status::Done);
-    assert_eq!(rt;
-        run.notes.written(),
-        b"source: length=4096 symbols=4096 batches=0 packets=0\n".as_slice()
-    );
-    Ok(())
-}
-
-#[test]
-fn sends_a_sampled_batch(rt: HostRuntime) -> Result<(), Fail> {
-    let line = "source --m 2 --t 1 --seed 00000000000000000000000000000000 --batches 1 --table 1";
-    let run = make_run(&rt, line, &[1, 7, 1, 0, 2], 1000, [0, 0, 0])?;
-    assert_eq!(rt; run.status, Status::Done);
-    assert_eq!(rt; run.output.written(), SAMPLED_OUTPUT.as_slice());
-    assert_eq!(rt;
-        run.notes.written(),
-        b"source: length=5 symbols=5 batches=1 packets=2\n".as_slice()
-    );
-    Ok(())
-}
-
-#[test]
-fn refuses_other_words(rt: HostRuntime) -> Result<(), Fail> {
-    for line in [
-        "",
-        "sync",
-        "sink --workers 0",
-        "sink --workers=2",
-        "sink --workers 2 --workers 2",
-        "source --m 2 --m 2 --t 2 --seed 00000000000000000000000000000000 --batches 1",
-    ] {
-        let run = make_run(&rt, line, &[1, 2, 3, 4], 1000, [1, 0, 0])?;
-        assert_eq!(rt; run.status, Status::Usage, "at {line}");
-        assert!(rt; run.output.written().is_empty());
-        assert_eq!(rt; run.notes.written(), b"bats: usage\n".as_slice());
-    }
-    Ok(())
-}
-
-#[test]
-fn tells_each_read_that_fails(rt: HostRuntime) -> Result<(), Fail> {
-    // Two reads give the file, and the third its end.
-    for call in 1..4 {
-        let run = make_run(&rt, SMALL, &[1, 2, 3, 4], 3, [call, 0, 0])?;
-        assert_eq!(rt; run.status, Status::ReadFault, "at {call}");
-        assert!(rt; run.output.written().is_empty());
-        assert_eq!(rt; run.notes.written(), b"bats: read fault\n".as_slice());
-    }
-    let run = make_run(&rt, SMALL, &[1, 2, 3, 4], 3, [4, 0, 0])?;
-    assert_eq!(rt; run.status, Status::Done);
-    Ok(())
-}
-
-#[test]
-fn tells_each_write_of_the_output_that_fails(rt: HostRuntime) -> Result<(), Fail> {
-    // Pieces of at most 3 bytes: 11 writes for the header, 2 + 1 + 1 for each packet, and the flush.
-    for call in 1..21 {
-        let run = make_run(&rt, SMALL, &[1, 2, 3, 4], 3, [0, call, 0])?;
-        assert_eq!(rt; run.status, Status::WriteFault, "at {call}");
-        assert!(rt; SMALL_OUTPUT.starts_with(run.output.written()), "at {call}");
-        assert_eq!(rt; run.notes.written(), b"bats: write fault\n".as_slice());
-    }
-    let run = make_run(&rt, SMALL, &[1, 2, 3, 4], 3, [0, 21, 0])?;
-    assert_eq!(rt; run.status, Status::Done);
-    Ok(())
-}
-
-#[test]
-fn tells_each_write_of_the_notes_that_fails(rt: HostRuntime) -> Result<(), Fail> {
-    // 47 bytes in pieces of at most 3, and the flush.
-    for call in 1..18 {
-        let run = make_run(&rt, SMALL, &[1, 2, 3, 4], 3, [0, 0, call])?;
-        assert_eq!(rt; run.status, Status::WriteFault, "at {call}");
-        assert_eq!(rt; run.output.written(), SMALL_OUTPUT.as_slice());
-        assert!(rt;
-            SMALL_LINE.as_bytes().starts_with(run.notes.written()),
-            "at {call}"
-        );
-    }
-    let run = make_run(&rt, SMALL, &[1, 2, 3, 4], 3, [0, 0, 18])?;
-    assert_eq!(rt; run.status, Status::Done);
-    Ok(())
 }

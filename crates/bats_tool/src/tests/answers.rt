@@ -1,0 +1,248 @@
+// What each command answers, as tables: the words, the input, and what the run leaves.
+use super::*;
+
+// The input is what `input_of` makes of the three fields after the words.
+#[derive(Clone, Copy)]
+struct Row {
+    words: &'static str,
+    front: usize,
+    change: (usize, u8),
+    more: &'static [u8],
+    status: Status,
+    output: &'static [u8],
+    notes: &'static str,
+}
+
+const EMPTY: &str =
+    "source --m 2 --t 2 --seed 00000000000000000000000000000000 --batches 0 --systematic";
+
+const SAMPLED: &str =
+    "source --m 2 --t 1 --seed 00000000000000000000000000000000 --batches 1 --table 1";
+
+// Runs that send or receive a file.
+const ANSWERED: [Row; 19] = [
+    Row {
+        words: SMALL,
+        front: 0,
+        change: AS_IT_IS,
+        more: b"\x01\x02\x03\x04",
+        status: Status::Done,
+        output: b"BTS\x01\x02\x80\0\x02\0\0\0\0\0\0\0\x04\0\0\0\0\0\0\0\0\0\0\0\0\0\0\0\0P\0\0\0\0\x01\0\x01\x02P\0\0\0\0\0\x01\x03\x04",
+        notes: "source: length=4 symbols=2 batches=1 packets=2\n",
+    },
+    Row {
+        words: EMPTY,
+        front: 0,
+        change: AS_IT_IS,
+        more: b"",
+        status: Status::Done,
+        output: b"BTS\x01\x02\x80\0\x02\0\0\0\0\0\0\0\0\0\0\0\0\0\0\0\0\0\0\0\0\0\0\0\0",
+        notes: "source: length=0 symbols=0 batches=0 packets=0\n",
+    },
+    Row {
+        words: SAMPLED,
+        front: 0,
+        change: AS_IT_IS,
+        more: b"\x01\x07\x01\0\x02",
+        status: Status::Done,
+        output: SAMPLED_OUTPUT,
+        notes: "source: length=5 symbols=5 batches=1 packets=2\n",
+    },
+    Row {
+        words: "sink",
+        front: 50,
+        change: AS_IT_IS,
+        more: b"",
+        status: Status::Done,
+        output: b"\x01\x02\x03\x04",
+        notes: "sink: file length=4 packets=2 kept=2\n",
+    },
+    Row {
+        words: "sink --both",
+        front: 50,
+        change: AS_IT_IS,
+        more: b"",
+        status: Status::Done,
+        output: b"\x01\x02\x03\x04",
+        notes: "sink: file length=4 packets=2 kept=2\n",
+    },
+    Row {
+        words: "sink --workers 1",
+        front: 50,
+        change: AS_IT_IS,
+        more: b"",
+        status: Status::Done,
+        output: b"\x01\x02\x03\x04",
+        notes: "sink: file length=4 packets=2 kept=2\n",
+    },
+    Row {
+        words: "sink --workers 2",
+        front: 50,
+        change: AS_IT_IS,
+        more: b"",
+        status: Status::Done,
+        output: b"\x01\x02\x03\x04",
+        notes: "sink: file length=4 packets=2 kept=2\n",
+    },
+    Row {
+        words: "sink --workers 64",
+        front: 50,
+        change: AS_IT_IS,
+        more: b"",
+        status: Status::Done,
+        output: b"\x01\x02\x03\x04",
+        notes: "sink: file length=4 packets=2 kept=2\n",
+    },
+    Row {
+        words: "sink",
+        front: 32,
+        change: AS_IT_IS,
+        more: b"P\0\0\0\0\0\x01\x03\x04P\0\0\0\0\0\x01\x03\x04P\0\0\0\0\0\x01\x03\x04P\0\0\0\0\x01\0\x01\x02P\0\0\0\0\x01\0\x01\x02P\0\0\0\0\x01\0\x01\x02",
+        status: Status::Done,
+        output: b"\x01\x02\x03\x04",
+        notes: "sink: file length=4 packets=6 kept=2\n",
+    },
+    Row {
+        words: "sink",
+        front: 50,
+        change: AS_IT_IS,
+        more: b"BTS\x01\x02\x80\0\x02\0\0\0\0\0\0\0\x04\0\0\0\0\0\0\0\0\0\0\0\0\0\0\0\0",
+        status: Status::Done,
+        output: b"\x01\x02\x03\x04",
+        notes: "sink: file length=4 packets=2 kept=2\n",
+    },
+    Row {
+        words: "sink",
+        front: 41,
+        change: AS_IT_IS,
+        more: b"P\0\0\0\0\x01\0\x01\x03",
+        status: Status::Inconsistent,
+        output: b"",
+        notes: "sink: inconsistent packets=2 kept=1\n",
+    },
+    // The file has no byte where this packet has one.
+    Row {
+        words: "sink",
+        front: 32,
+        change: (15, 3),
+        more: b"P\0\0\0\0\0\x01\x03\x01",
+        status: Status::Inconsistent,
+        output: b"",
+        notes: "sink: inconsistent packets=1 kept=1\n",
+    },
+    Row {
+        words: "sink",
+        front: 32,
+        change: (15, 3),
+        more: b"P\0\0\0\0\0\x01\x03\0P\0\0\0\0\x01\0\x01\x02",
+        status: Status::Done,
+        output: b"\x01\x02\x03",
+        notes: "sink: file length=3 packets=2 kept=2\n",
+    },
+    Row {
+        words: "sink",
+        front: 41,
+        change: (15, 3),
+        more: b"",
+        status: Status::NeedMore,
+        output: b"",
+        notes: "sink: need-more open=1 packets=1 kept=1\n",
+    },
+    Row {
+        words: "sink",
+        front: 32,
+        change: AS_IT_IS,
+        more: b"",
+        status: Status::NeedMore,
+        output: b"",
+        notes: "sink: need-more open=0 packets=0 kept=0\n",
+    },
+    Row {
+        words: "sink",
+        front: 32,
+        change: (15, 0),
+        more: b"",
+        status: Status::Done,
+        output: b"",
+        notes: "sink: file length=0 packets=0 kept=0\n",
+    },
+    // The batch has one symbol and two packets, so the second is zero.
+    Row {
+        words: "sink",
+        front: 41,
+        change: (15, 2),
+        more: b"P\0\0\0\0\0\x01\0\0",
+        status: Status::Done,
+        output: b"\x01\x02",
+        notes: "sink: file length=2 packets=2 kept=2\n",
+    },
+    Row {
+        words: "sink",
+        front: 41,
+        change: (15, 2),
+        more: b"P\0\0\0\0\0\x01\0\x01",
+        status: Status::Inconsistent,
+        output: b"",
+        notes: "sink: inconsistent packets=2 kept=2\n",
+    },
+    Row {
+        words: "show",
+        front: 32,
+        change: (15, 0),
+        more: b"BTS\x01\x02\x80\0\x02\0\0\0\0\0\0\0\0\0\0\0\0\0\0\0\0\0\0\0\0\0\0\0\0P\xff\xff\xff\xff\x0a\xb0\xcd\x0e",
+        status: Status::Done,
+        output: b"header at=0 m=2 t=2 length=0 symbols=0 systematic=1 table=0 seed=00000000000000000000000000000000\nheader at=32 m=2 t=2 length=0 symbols=0 systematic=1 table=0 seed=00000000000000000000000000000000\npacket at=64 batch=4294967295 coefs=0ab0 payload=cd0e\n",
+        notes: "show: headers=2 packets=1\n",
+    },
+];
+
+#[test]
+fn answers_as_listed(rt: HostRuntime) -> Result<(), Fail> {
+    for row in ANSWERED {
+        let input = input_of(rt.alloc(), row.front, row.change, row.more)?;
+        for most in [1, 3, 1000] {
+            let run = make_run(&rt, row.words, &input, most, [0, 0, 0])?;
+            assert_left(&rt, &run, row.status, row.output, row.notes);
+        }
+    }
+    Ok(())
+}
+
+// A file of so many bytes.
+fn file_of(alloc: Global, length: u32) -> Result<Vec<u8>, AllocError> {
+    let mut bytes = Vec::new(alloc);
+    for place in 0..length {
+        bytes.push((place % 251) as u8)?;
+    }
+    Ok(bytes)
+}
+
+#[test]
+fn receives_what_source_sends(rt: HostRuntime) -> Result<(), Fail> {
+    // Batches of 5 symbols of 7 bytes, the systematic ones alone.
+    for (length, batches) in [(1, 1), (7, 1), (35, 1), (36, 2), (349, 10), (350, 10)] {
+        let file = file_of(rt.alloc(), length)?;
+        let line = format!(in rt.alloc();
+            "source --m 5 --t 7 --seed 000102030405060708090a0b0c0d0e0f --batches {batches} --systematic"
+        )?;
+        let sent = make_run(&rt, &line, &file, 1000, [0, 0, 0])?;
+        let run = make_run(&rt, "sink", sent.output.written(), 1000, [0, 0, 0])?;
+        assert_eq!(rt; run.status, Status::Done, "at {length}");
+        assert_eq!(rt; run.output.written(), file.as_slice(), "at {length}");
+    }
+    Ok(())
+}
+
+#[test]
+fn writes_two_files_that_agree(rt: HostRuntime) -> Result<(), Fail> {
+    let input = input_of(rt.alloc(), 41, (15, 3), &[])?;
+    let run = make_run(&rt, "sink --both", &input, 1000, [0, 0, 0])?;
+    assert_eq!(rt; run.status, Status::NeedMore);
+    assert_eq!(rt;
+        run.notes.written(),
+        b"sink: need-more open=1 packets=1 kept=1\n".as_slice()
+    );
+    let both = run.output.written();
+    assert!(rt; matches!(both, [1, 2, first, 1, 2, second] if first != second));
+    Ok(())
+}
