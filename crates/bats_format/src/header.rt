@@ -4,19 +4,12 @@ ghost use Rattle.bats_model.specs.Session.{SessionData, IsSession};
 ghost use Rattle.bats_model.specs.Records.{header_record, mode_of};
 ghost use Rattle.bats_model.specs.Refusal.{first_broken, symbol_size_in, length_in};
 
-use bats_model::{HeaderField, Session};
+use bats_model::{HeaderField, MAX_BATCH_SIZE, MAX_SYMBOL_SIZE, MAX_SYMBOLS, Session};
 use byteorder::{BigEndian, ByteOrder};
 
 const MAGIC: [u8; 3] = *b"BTS";
 
 const VERSION: u8 = 1;
-
-// The greatest values of a header's numbers.
-const MOST_PACKETS: u8 = 32;
-
-const MOST_SYMBOL_BYTES: u16 = 2048;
-
-const MOST_SYMBOLS: u64 = 4096;
 
 // Bit 7 of the mode byte.
 const SYSTEMATIC: u8 = 128;
@@ -95,13 +88,13 @@ fn broken_field(bytes: &[u8; 32]) -> Option<HeaderField>
         Some(HeaderField::Magic)
     } else if bytes[3] != VERSION {
         Some(HeaderField::Version)
-    } else if bytes[4] == 0 || bytes[4] > MOST_PACKETS {
+    } else if bytes[4] == 0 || bytes[4] > MAX_BATCH_SIZE {
         Some(HeaderField::BatchSize)
     } else if bytes[5] % SYSTEMATIC > 1 {
         Some(HeaderField::Mode)
-    } else if t == 0 || t > MOST_SYMBOL_BYTES {
+    } else if t == 0 || t > MAX_SYMBOL_SIZE {
         Some(HeaderField::SymbolSize)
-    } else if length(bytes).div_ceil(u64::from(t)) > MOST_SYMBOLS {
+    } else if length(bytes).div_ceil(u64::from(t)) > MAX_SYMBOLS {
         Some(HeaderField::Length)
     } else {
         None

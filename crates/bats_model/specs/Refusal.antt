@@ -2,7 +2,7 @@
 use Rattle.std.specs.Prelude.{ℕ, ◌≡◌, ◌≤◌, ◌%◌, ◌==◌, ◌&&◌, ◌⊎◌, not, nat_lt, nat_le, if◌then◌else◌, List, [], ◌∷◌, ◌++◌, length, take, drop, slice_index, Option, Some, None, option_map, codes}
 use Rattle.std.specs.Int.{w16, w64, from_be_bytes}
 use Rattle.std.specs.Str.{bytes_eq}
-use Rattle.bats_model.specs.Session.{SessionData, symbol_count}
+use Rattle.bats_model.specs.Session.{SessionData, symbol_count, max_batch_size, max_symbol_size, max_symbols}
 use Rattle.bats_model.specs.Records.{version, header_tag, packet_tag}
 use Rattle.bats_model.specs.PacketFile.{IsPacketFile, most_records}
 use Rattle.bats_model.specs.declared.item.Item.{Item}
@@ -29,11 +29,11 @@ unfoldable pub first_broken : List ℕ → Option HeaderField
 first_broken bytes =
     if not (bytes_eq (take 3 bytes) (codes "BTS")) then Some fields.Magic
     else if not (slice_index bytes 3 == version) then Some fields.Version
-    else if not (nat_le 1 (slice_index bytes 4) && nat_le (slice_index bytes 4) 32) then Some fields.BatchSize
+    else if not (nat_le 1 (slice_index bytes 4) && nat_le (slice_index bytes 4) max_batch_size) then Some fields.BatchSize
     -- bits 0 to 6 are the number of the table
     else if not (nat_le (slice_index bytes 5 % 128) 1) then Some fields.Mode
-    else if not (nat_le 1 (symbol_size_in bytes) && nat_le (symbol_size_in bytes) 2048) then Some fields.SymbolSize
-    else if not (nat_le (symbol_count (length_in bytes) (symbol_size_in bytes)) 4096) then Some fields.Length
+    else if not (nat_le 1 (symbol_size_in bytes) && nat_le (symbol_size_in bytes) max_symbol_size) then Some fields.SymbolSize
+    else if not (nat_le (symbol_count (length_in bytes) (symbol_size_in bytes)) max_symbols) then Some fields.Length
     else None
 
 -- why an input is refused that has no packet file at its front

@@ -13,6 +13,16 @@ pub record SessionData : Type 0 where
   pub systematic : Bool
   pub seed : List ℕ
 
+-- the limits: packets of a batch, bytes of a symbol, and symbols of a file, at most
+abbrev pub max_batch_size : ℕ
+max_batch_size = 32
+
+abbrev pub max_symbol_size : ℕ
+max_symbol_size = 2048
+
+abbrev pub max_symbols : ℕ
+max_symbols = 4096
+
 -- the number of symbols of t bytes that hold a file of this length
 abbrev pub symbol_count : ℕ → ℕ → ℕ
 symbol_count file_length t = div_ceil file_length t
@@ -28,10 +38,10 @@ IsPadded session = session.file_length % session.t ≢ 0
 -- the parameters are within the limits, and the seed is of bytes
 pub record IsSession (session : SessionData) : Type 0 where
   pub m_low : 1 ≤ session.m
-  pub m_high : session.m ≤ 32
+  pub m_high : session.m ≤ max_batch_size
   pub t_low : 1 ≤ session.t
-  pub t_high : session.t ≤ 2048
+  pub t_high : session.t ≤ max_symbol_size
   pub table : session.table < 2
-  pub symbols : symbols_of session ≤ 4096
+  pub symbols : symbols_of session ≤ max_symbols
   pub seed : length session.seed ≡ 16
   pub seed_bytes : AreBytes session.seed

@@ -24,6 +24,6 @@ pub use numbers::Nums;
 pub use packet::Packet;
 pub use plain::{is_plain, unit_place};
 pub use read_end::{HeaderField, ReadEnd};
-pub use session::{BadSession, Session};
+pub use session::{BadSession, MAX_BATCH_SIZE, MAX_SYMBOL_SIZE, MAX_SYMBOLS, Session};
 pub use systematic::unit_batch;
 pub use taken::Taken;
