@@ -1,9 +1,11 @@
-//! The records of a packet file in a run: how far they are read, how a run ends whose input is refused, and the writing of
+//! The records of a packet file in a run: the walk over them, how a run ends whose input is refused, and the writing of
 //! records. It knows no command.
 #![tactic(auto)]
 
 mod records;
 mod refusals;
+mod walking;
 
 pub use records::{write_header, write_packet};
 pub use refusals::refused;
+pub use walking::{Taken, Taker, WalkEnd, walk};
