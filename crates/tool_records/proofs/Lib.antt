@@ -1,2 +1,3 @@
 pub mod RecordsRead
 pub mod ReaderAnswers
+pub mod WalkSteps

@@ -3,7 +3,6 @@ use Rattle.std.specs.Prelude.{◌≡◌, string_bytes, Result, Ok, Err}
 use Rattle.bats_model.specs.declared.read_end.ReadEnd.{ReadEnd}
 use Rattle.bats_model.specs.declared.read_end.ReadEnd.TheVariants as ends
 use Rattle.tool_run.specs.declared.finish.Finish.{Finish}
-use Rattle.tool_run.specs.declared.status.Status.TheVariants as statuses
 use Rattle.tool_run.specs.declared.stop.Stop.{Stop}
 use Rattle.tool_run.specs.declared.stop.Stop.TheVariants as stops
 use Rattle.tool_records.specs.Reading.{refusal_line, refusal_status}
