@@ -1,4 +1,4 @@
--- The endings that words and input allow agree, but for the two files of need-more.
+-- A command has one ending on an input, but for the two files of need-more.
 use Rattle.std.proofs.Common.{ℕ, ◌≡◌, ◌≤◌, ◌⊎◌, ◌∙◌, inl, inr, suc, sym, ap, refl, subst, Bool, List, [], ◌∷◌, ◌++◌, length, Option, None, Some, append-nil, arith}
 use Rattle.std.specs.Prelude.{All}
 use Rattle.std.proofs.lemmas.List.{length-append}
@@ -17,26 +17,11 @@ use Rattle.bats_model.specs.declared.read_end.ReadEnd.{ReadEnd}
 use Rattle.bats_model.proofs.RightAnswers.{AreAlike-right}
 use Rattle.bats_format.proofs.PacketFiles.{same_file, same_files, further_items}
 use Rattle.bats_format.proofs.Refusals.{refused_once, no_file_refused}
-use Rattle.bats_words.specs.declared.command.Command.{Command}
-use Rattle.bats_words.specs.declared.command.Command.TheVariants as commands
 use Rattle.tool_run.specs.declared.status.Status.TheVariants as statuses
 use Rattle.tool_run.specs.Ending.{Ending}
 use Rattle.tool_records.specs.Reading.{IsReading, refused_ending}
 use Rattle.tool_stream.specs.Show.{IsShowEnding, show_ending}
 use Rattle.tool_sink.specs.Sink.{ArePlain, SinkAnswers, SinkRefuses, SinkIsNotBuilt, IsSinkEnding, answer_ending, file_line, need_more_line}
-use Rattle.bats_tool.specs.Promises.{IsEnding}
-
--- both endings have one status and one notes line, and one output, but for need-more
-abbrev Agree : Ending → Ending → Type 0
-Agree ending other = (ending.status ≡ other.status) × (ending.line ≡ other.line)
-    × ((ending.output ≡ other.output) ⊎ (ending.status ≡ statuses.NeedMore))
-
-Agree-same : (ending other : Ending) → ending ≡ other → Agree ending other
-Agree-same ending other e = (
-  ap (λ (x : Ending). x.status) e,
-  ap (λ (x : Ending). x.line) e,
-  inl (ap (λ (x : Ending). x.output) e),
-)
 
 -- ---- one reading
 
@@ -92,25 +77,37 @@ same_reading input (Some session) (Some other) list others (Some end) (Some last
           (refused_once input end last (inr (session, list, h)) (inr (other, others, k)));
     }
 
-Agree-show : (input : List ℕ) (ending other : Ending) → IsShowEnding input ending → IsShowEnding input other → Agree ending other
-Agree-show input ending other h k =
+pub one_show : (input : List ℕ) (ending other : Ending) → IsShowEnding input ending → IsShowEnding input other → ending ≡ other
+one_show input ending other h k =
     let same = same_reading input h.session k.session h.list k.list h.end k.end h.reading k.reading in
-    Agree-same ending other
-    (h.ending_is
+    h.ending_is
     ∙ ap (λ (x : Option SessionData). show_ending x h.list h.end) same.sessions
     ∙ ap (λ (x : List Item). show_ending k.session x h.end) same.lists
     ∙ ap (λ (x : Option ReadEnd). show_ending k.session k.list x) same.ends
-    ∙ sym k.ending_is)
+    ∙ sym k.ending_is
 
 -- ---- the sink
+
+-- both endings have all in common but for the output of need-more
+abbrev pub Agree : Ending → Ending → Type 0
+Agree ending other = (ending.status ≡ other.status) × (ending.line ≡ other.line) × (ending.reach ≡ other.reach)
+    × ((ending.output ≡ other.output) ⊎ (ending.status ≡ statuses.NeedMore))
+
+Agree-same : (ending other : Ending) → ending ≡ other → Agree ending other
+Agree-same ending other e = (
+  ap (λ (x : Ending). x.status) e,
+  ap (λ (x : Ending). x.line) e,
+  ap (λ (x : Ending). x.reach) e,
+  inl (ap (λ (x : Ending). x.output) e),
+)
 
 alike_endings : (both : Bool) (packets : List Packet) (answer other : Answer) → AreAlike answer other
     → Agree (answer_ending both packets answer) (answer_ending both packets other)
 alike_endings both packets (File f) (File g) e =
-    (refl, ap (λ (x : List ℕ). file_line (length x) (length packets) (kept_count packets)) e, inl e)
-alike_endings both packets Inconsistent Inconsistent h = (refl, refl, inl refl)
+    (refl, ap (λ (x : List ℕ). file_line (length x) (length packets) (kept_count packets)) e, refl, inl e)
+alike_endings both packets Inconsistent Inconsistent h = (refl, refl, refl, inl refl)
 alike_endings both packets (NeedMore s a b) (NeedMore u c d) e =
-    (refl, ap (λ (x : ℕ). need_more_line x (length packets) (kept_count packets)) e, inr refl)
+    (refl, ap (λ (x : ℕ). need_more_line x (length packets) (kept_count packets)) e, refl, inr refl)
 alike_endings both packets (File f) Inconsistent h = absurd h
 alike_endings both packets (File f) (NeedMore s a b) h = absurd h
 alike_endings both packets Inconsistent (File g) h = absurd h
@@ -187,24 +184,14 @@ no_both : (both : Bool) (input : List ℕ) (ending other : Ending) → SinkAnswe
 no_both both input ending other h k =
     no_file_refused h.session h.list input k.end h.file (refused input k.session k.list k.end k.reading)
 
-Agree-sink : (both : Bool) (input : List ℕ) (ending other : Ending) → IsSinkEnding both input ending → IsSinkEnding both input other
+pub one_sink : (both : Bool) (input : List ℕ) (ending other : Ending) → IsSinkEnding both input ending → IsSinkEnding both input other
     → Agree ending other
-Agree-sink both input ending other (inl h) (inl k) = Agree-answers both input ending other h k
-Agree-sink both input ending other (inl h) (inr (inl k)) = absurd (no_both both input ending other h k)
-Agree-sink both input ending other (inl h) (inr (inr k)) = absurd (no_answer both input ending other h k)
-Agree-sink both input ending other (inr (inl h)) (inl k) = absurd (no_both both input other ending k h)
-Agree-sink both input ending other (inr (inl h)) (inr (inl k)) = Agree-refuses input ending other h k
-Agree-sink both input ending other (inr (inl h)) (inr (inr k)) = absurd (no_refusal input ending other h k)
-Agree-sink both input ending other (inr (inr h)) (inl k) = absurd (no_answer both input other ending k h)
-Agree-sink both input ending other (inr (inr h)) (inr (inl k)) = absurd (no_refusal input other ending k h)
-Agree-sink both input ending other (inr (inr h)) (inr (inr k)) = Agree-same ending other (h.ending_is ∙ sym k.ending_is)
-
--- ---- each command
-
-pub one_ending : (command : Option Command) (input : List ℕ) (ending other : Ending) → IsEnding command input ending
-    → IsEnding command input other
-    → (ending.status ≡ other.status) × (ending.line ≡ other.line) × ((ending.output ≡ other.output) ⊎ (ending.status ≡ statuses.NeedMore))
-one_ending None input ending other h k = Agree-same ending other (h ∙ sym k)
-one_ending (Some (commands.Source m t table systematic seed first batches)) input ending other h k = Agree-same ending other (h ∙ sym k)
-one_ending (Some (commands.Sink workers both)) input ending other h k = Agree-sink both input ending other h k
-one_ending (Some commands.Show) input ending other h k = Agree-show input ending other h k
+one_sink both input ending other (inl h) (inl k) = Agree-answers both input ending other h k
+one_sink both input ending other (inl h) (inr (inl k)) = absurd (no_both both input ending other h k)
+one_sink both input ending other (inl h) (inr (inr k)) = absurd (no_answer both input ending other h k)
+one_sink both input ending other (inr (inl h)) (inl k) = absurd (no_both both input other ending k h)
+one_sink both input ending other (inr (inl h)) (inr (inl k)) = Agree-refuses input ending other h k
+one_sink both input ending other (inr (inl h)) (inr (inr k)) = absurd (no_refusal input ending other h k)
+one_sink both input ending other (inr (inr h)) (inl k) = absurd (no_answer both input other ending k h)
+one_sink both input ending other (inr (inr h)) (inr (inl k)) = absurd (no_refusal input other ending k h)
+one_sink both input ending other (inr (inr h)) (inr (inr k)) = Agree-same ending other (h.ending_is ∙ sym k.ending_is)
