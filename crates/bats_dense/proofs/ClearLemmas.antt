@@ -20,13 +20,13 @@ use Rattle.bats_dense.specs.steps.Clearing.{Clears, Normalizes, Eliminates}
 
 -- ---- lists of rows
 
-Contains-one : (x r : ℕ) → r ≡ x → Contains (x ∷ []) r
+pub Contains-one : (x r : ℕ) → r ≡ x → Contains (x ∷ []) r
 Contains-one x r e = subst (Contains (x ∷ [])) (sym e) (Contains-get_or (x ∷ []) 0 0 (lit< tt))
 
-one-Contains : (x r : ℕ) → Contains (x ∷ []) r → r ≡ x
+pub one-Contains : (x r : ℕ) → Contains (x ∷ []) r → r ≡ x
 one-Contains x r has = sym (All-contains (λ y. x ≡ y) (x ∷ []) r (All-cons (λ y. x ≡ y) x [] refl (All-nil (λ y. x ≡ y))) has)
 
-entry_of_row : (m n : Grid) (r j : ℕ) → matrix_row n r ≡ matrix_row m r → matrix_entry n r j ≡ matrix_entry m r j
+pub entry_of_row : (m n : Grid) (r j : ℕ) → matrix_row n r ≡ matrix_row m r → matrix_entry n r j ≡ matrix_entry m r j
 entry_of_row m n r j e = ap (λ (row : List ℕ). get_or row j 0) e
 
 -- ---- a row is cleared

@@ -1,1 +1,3 @@
 pub mod ClearLemmas
+pub mod EliminationLemmas
+pub mod ReductionLemmas
