@@ -138,3 +138,16 @@ pub Eliminates-done : (eqs others : List ℕ) (place column : ℕ) (a b c d e : 
     → Eliminates eqs others place column a e p t
 Eliminates-done eqs others place column a b c d e p q r s t targets within scaling before after beside =
     Eliminates-all eqs others place column a b c d e p q r s t targets within scaling before after beside
+
+-- ---- from one matrix to a later one
+
+pub AreTargets-performed : (sources eqs others : List ℕ) (m n : Grid) (before after : List Op) → Performed sources m n before after → AreTargets m eqs others → AreTargets n eqs others
+AreTargets-performed sources eqs others m n before after did targets = record {
+  eqs_within = rows_within m n eqs (length-performed did) targets.eqs_within;
+  others_within = rows_within m n others (length-performed did) targets.others_within;
+  distinct = targets.distinct;
+  apart = targets.apart;
+}
+
+pub KeepsOutside-then : (eqs others : List ℕ) (a b c : Grid) → KeepsOutside eqs others a b → KeepsOutside eqs others b c → KeepsOutside eqs others a c
+KeepsOutside-then eqs others a b c first next = λ row no_eq no_other. next row no_eq no_other ∙ first row no_eq no_other

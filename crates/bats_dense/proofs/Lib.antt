@@ -1,3 +1,4 @@
 pub mod ClearLemmas
 pub mod EliminationLemmas
 pub mod ReductionLemmas
+pub mod UnusedLemmas

@@ -34,7 +34,7 @@ pub struct Dense {
 fn unused_rows(alloc: Global, eqs: &[u32], used: &[bool]) -> Result<Nums, AllocError>
     requires places { length used.now ≡ length eqs.now }
     requires distinct { AllPairs (λ a b. a ≢ b) eqs.now }
-    ensures { IfOk result (AreUnused eqs.now used.now) }
+    ensures { IfOk result (AreUnused (length eqs.now) eqs.now used.now) }
 {
     let mut rows = Nums::new(alloc);
     'places: for (place, row) in eqs.iter().enumerate() {

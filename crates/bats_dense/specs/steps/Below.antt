@@ -38,15 +38,15 @@ pub record IsPivotPlace (m : Grid) (eqs : List ℕ) (used : List Bool) (column p
   pub unused : is_used used place ≡ false
   pub entry : matrix_entry m (slice_index eqs place) column ≢ 0
 
--- the row is an equation that has no pivot
-pub record IsUnusedRow (eqs : List ℕ) (used : List Bool) (row : ℕ) : Type 0 where
+-- the row is one of the first n equations, and has no pivot
+pub record IsUnusedRow (n : ℕ) (eqs : List ℕ) (used : List Bool) (row : ℕ) : Type 0 where
   pub place : ℕ
-  pub within : place < length eqs
+  pub within : place < n
   pub unused : is_used used place ≡ false
   pub is : slice_index eqs place ≡ row
 
--- the equations that have no pivot, by their places
-pub record AreUnused (eqs : List ℕ) (used : List Bool) (rows : List ℕ) : Type 0 where
-  pub are : All (IsUnusedRow eqs used) rows
-  pub each : (k : ℕ) → k < length eqs → is_used used k ≡ false → Contains rows (slice_index eqs k)
+-- those of the first n equations that have no pivot
+pub record AreUnused (n : ℕ) (eqs : List ℕ) (used : List Bool) (rows : List ℕ) : Type 0 where
+  pub are : All (IsUnusedRow n eqs used) rows
+  pub each : (k : ℕ) → k < n → is_used used k ≡ false → Contains rows (slice_index eqs k)
   pub once : AllPairs (λ a b. a ≢ b) rows
