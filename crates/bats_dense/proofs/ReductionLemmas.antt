@@ -296,9 +296,9 @@ module _ (eqs others : List ℕ) (used : List Bool) (dense : Dense)
   pivots_are_nonzero =
       All-from_get_or (λ r. ¬ IsZeroRow dense.matrix r) dense.pivot_rows 0
       (λ i h is_zero.
-          let at : i < length dense.pivot_columns = omega (arith, state.sizes) in
-          let one : 1 ≡ 0 = sym (state.ones i at) ∙ is_zero (get_or dense.pivot_columns i 0) (state.columns.pivots_within i 0 at) in
-          absurd (omega (arith, one)))
+      let at : i < length dense.pivot_columns = omega (arith, state.sizes) in
+      let one : 1 ≡ 0 = sym (state.ones i at) ∙ is_zero (get_or dense.pivot_columns i 0) (state.columns.pivots_within i 0 at) in
+      absurd (omega (arith, one)))
 
   unused_is_eq : (r : ℕ) → IsUnusedRow (length eqs) eqs used r → Contains eqs r
   unused_is_eq r is = subst (Contains eqs) is.is (Contains-get_or eqs is.place 0 is.within)
@@ -334,7 +334,7 @@ module _ (eqs others : List ℕ) (used : List Bool) (dense : Dense)
     pivots = pivots_are_eqs;
     zero_rows = λ r. (
       (λ has. (unused_is_eq r (unused_of r has), unused_is_zero r (unused_of r has))),
-      (λ both. zero_is_told r both.0 both.1)
+      (λ both. zero_is_told r both.0 both.1),
     );
     once = rest.once;
     each = λ r has. All-contains (λ k. Contains dense.pivot_rows k ⊎ Contains dense.zero_rows k) eqs r each_eq has;
