@@ -1,4 +1,4 @@
--- How `source` ends.
+-- How `source` ends, and that its promise can be kept.
 use Rattle.std.proofs.Common.{ℕ, ◌≡◌, ◌<◌, ◌≤◌, cond, List, length, ltb, arith, rules}
 use Rattle.std.proofs.lemmas.Bool.Decides.{nat_tests}
 use Rattle.bats_model.specs.Session.{symbols_of}
@@ -6,7 +6,9 @@ use Rattle.bats_words.specs.declared.source_options.SourceOptions.{SourceOptions
 use Rattle.tool_run.specs.declared.status.Status.TheVariants as statuses
 use Rattle.tool_source.specs.FileSession.{session_for}
 use Rattle.tool_run.specs.Ending.{Ending, to_end}
-use Rattle.tool_source.specs.Source.{source_output, source_line, symbols_ending, source_ending}
+use Rattle.tool_run.specs.Promise.{Keeps}
+use Rattle.tool_run.proofs.Begun.{reads_file-keeps}
+use Rattle.tool_source.specs.Source.{source_output, source_line, symbols_ending, source_ending, source_promise, most_read}
 
 -- the ending of a file that is sent
 unfoldable pub done_ending : SourceOptions → List ℕ → Ending
@@ -32,3 +34,7 @@ pub source_ending-done : (o : SourceOptions) (file : List ℕ) → symbols_of (s
     → source_ending o file ≡ done_ending o file
 unfolding source_ending done_ending
 source_ending-done o file h = short_enough _ _ _ h
+
+-- what the run of `source` rests on
+pub source_promise-keeps : (options : SourceOptions) → Keeps (source_promise options)
+source_promise-keeps options = reads_file-keeps (most_read options) (source_ending options)

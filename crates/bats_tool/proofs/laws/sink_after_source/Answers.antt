@@ -1,8 +1,0 @@
-use Rattle.bats_tool.proofs.SourceAndSink.{given_back, comes_back_whole}
-use Rattle.bats_tool.proofs.laws.sink_after_source.Goals as goal
-
-pub returns-clause-no_other : goal.returns-clause-no_other
-returns-clause-no_other c = given_back
-
-pub returns-clause-whole : goal.returns-clause-whole
-returns-clause-whole c = comes_back_whole

@@ -1,0 +1,5 @@
+mod OneReading
+mod SentPackets
+mod GivenBack
+mod AllSymbols
+mod SourceAndSink
