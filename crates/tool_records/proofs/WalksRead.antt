@@ -62,7 +62,7 @@ ReadsRecords-items goes_on session list before after on q = record {
   reads_on = on;
   read = q.read;
   within = q.within;
-  stops = stops_within goes_on session list q.front q.begun (length q.front) refl q.none;
+  stops = stops_within goes_on session list q.front q.begun q.none;
 }
 
 -- and one more after which it goes on
@@ -79,7 +79,7 @@ ReadsRecords-item goes_on session list item before after on q =
       reads_on = on;
       read = subst (λ (bytes : List ℕ). IsRead before after bytes) (sym (append-nil front)) q.read;
       within = omega arith;
-      stops = stops_within goes_on (Some session) (list ++ item ∷ []) front [] (length front) refl (none_empty (Some session) (length front));
+      stops = stops_within goes_on (Some session) (list ++ item ∷ []) front [] (none_empty (Some session) (length front));
     }
 
 -- the first record is a header: it goes no further than one
