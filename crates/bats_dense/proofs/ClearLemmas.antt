@@ -1,9 +1,9 @@
 -- What one operation does to a column, and operations one after another.
-use Rattle.std.proofs.Common.{ℕ, ◌≡◌, ◌≢◌, ◌<◌, ◌+◌, ◌∙◌, inl, inr, List, [], ◌∷◌, ◌++◌, length, get_or, take, drop, sym, ap, refl, subst, arith, lit<}
-use Rattle.std.specs.Prelude.{All, AllPairs, Contains}
-use Rattle.std.proofs.lemmas.Bool.{cases_lt, cases_eq}
-use Rattle.std.proofs.lemmas.List.{length-take, length-drop, get_or-take, get_or-drop, take_more}
-use Rattle.std.proofs.lemmas.List.Elements.{All-nil, All-cons, All-append, All-contains, Contains-get_or, Contains-append_left, Contains-append_right, Contains-append_cases}
+use Rattle.std.proofs.Common.{ℕ, ◌≡◌, ◌≢◌, ◌<◌, ◌+◌, ◌∙◌, inl, inr, List, [], ◌∷◌, ◌++◌, length, get_or, take, sym, ap, refl, subst, arith, lit<}
+use Rattle.std.specs.Prelude.{All, Contains}
+use Rattle.std.proofs.lemmas.Bool.{cases_eq}
+use Rattle.std.proofs.lemmas.List.{take_more}
+use Rattle.std.proofs.lemmas.List.Elements.{All-nil, All-cons, All-append, All-contains, Contains-get_or, Contains-append_left, Contains-append_right}
 use Rattle.gf_core.specs.Field.{gf_add, gf_mul}
 use Rattle.gf_core.specs.Rows.{scaled_row, add_scaled_row}
 use Rattle.gf_core.proofs.AddLemmas.{gf_add-zero, gf_add_self}
@@ -12,11 +12,9 @@ use Rattle.gf_core.proofs.RowLemmas.{byte_at, get_or-add_scaled_row, get_or-scal
 use Rattle.gf_rows.specs.declared.operation.Op.{Op}
 use Rattle.gf_rows.specs.declared.operation.Op.TheVariants.{AddScaled, Scale}
 use Rattle.gf_rows.specs.Matrix.{Grid, IsMatrix, matrix_row, matrix_entry, with_matrix_row}
-use Rattle.gf_rows.specs.Performed.{Performed}
 use Rattle.gf_rows.proofs.MatrixLemmas.{matrix_row-with_matrix_row_same, matrix_row-with_matrix_row_other}
-use Rattle.gf_rows.proofs.SolutionLemmas.{Performed-none, Performed-add_scaled, Performed-scaled, Performed-then, Performed-weaker, length-performed}
-use Rattle.bats_dense.specs.Reduced.{AreTargets}
-use Rattle.bats_dense.specs.steps.Clearing.{Clears, Normalizes, Eliminates}
+use Rattle.gf_rows.proofs.SolutionLemmas.{Performed-none, Performed-add_scaled, Performed-scaled, Performed-then, length-performed}
+use Rattle.bats_dense.specs.steps.Clearing.{Clears, Normalizes}
 
 -- ---- lists of rows
 

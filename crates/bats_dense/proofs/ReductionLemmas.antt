@@ -1,14 +1,14 @@
 -- The reduced form, one column after another, and at the end.
-use Rattle.std.proofs.Common.{ℕ, zero, suc, ◌≡◌, ◌≢◌, ◌<◌, ◌+◌, ◌∙◌, ◌⊎◌, inl, inr, Bool, true, false, List, [], ◌∷◌, ◌++◌, length, get_or, set, replicate, sym, ap, refl, subst, arith, length-set}
-use Rattle.std.specs.Prelude.{All, AllPairs, Contains}
+use Rattle.std.proofs.Common.{ℕ, ◌≡◌, ◌≢◌, ◌<◌, ◌+◌, ◌∙◌, ◌⊎◌, inl, inr, Bool, true, false, List, [], ◌∷◌, ◌++◌, length, get_or, set, replicate, sym, ap, refl, subst, arith, length-set}
+use Rattle.std.specs.Prelude.{All, Contains}
 use Rattle.std.proofs.lemmas.Bool.{cases_lt, cases_eq}
 use Rattle.std.proofs.lemmas.List.{length-replicate, get_or-replicate, get_or-set_same, get_or-set_other, length-append}
 use Rattle.std.proofs.lemmas.List.Quantifiers.{all_pairs_push}
-use Rattle.std.proofs.lemmas.List.Elements.{All-nil, All-push, All-weaker, All-append, All-from_get_or, All-contains, Contains-get_or, Contains-append_left, Contains-push, Contains-push_cases}
+use Rattle.std.proofs.lemmas.List.Elements.{All-nil, All-push, All-weaker, All-from_get_or, All-contains, Contains-get_or, Contains-append_left, Contains-push, Contains-push_cases}
 use Rattle.std.proofs.Math.ListN.{get_or-append}
 use Rattle.gf_rows.specs.declared.operation.Op.{Op}
 use Rattle.gf_rows.specs.Matrix.{Grid, matrix_entry}
-use Rattle.bats_dense.specs.Reduced.{AreTargets, AreSplit, IsZeroRow, IsReduced}
+use Rattle.bats_dense.specs.Reduced.{AreSplit, IsZeroRow, IsReduced}
 use Rattle.bats_dense.specs.declared.dense.Dense.{Dense}
 use Rattle.bats_dense.specs.steps.Clearing.{Eliminates}
 use Rattle.bats_dense.specs.steps.Below.{is_used, IsUsedRow, IsReducedBelow, IsPivotPlace, IsUnusedRow, AreUnused}

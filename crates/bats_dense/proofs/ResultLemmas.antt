@@ -1,6 +1,6 @@
 -- The result, by what was read on the way: each list that was lent is the one that was handed in.
-use Rattle.std.proofs.Common.{ℕ, ◌≡◌, ◌∙◌, Bool, List, ◌++◌, length, sym, ap, subst}
-use Rattle.std.specs.Prelude.{All, AllPairs}
+use Rattle.std.proofs.Common.{ℕ, ◌≡◌, Bool, List, ◌++◌, length, sym, subst}
+use Rattle.std.specs.Prelude.{All}
 use Rattle.std.proofs.lemmas.List.Elements.{All-append}
 use Rattle.gf_rows.specs.declared.operation.Op.{Op}
 use Rattle.gf_rows.specs.Matrix.{Grid, IsMatrix}

@@ -1,4 +1,3 @@
-use Rattle.std.proofs.Common.{◌∙◌, refl}
 use Rattle.bats_dense.proofs.ResultLemmas.{IsReduced-read, KeepsOutside-read, Performed-read, KeepsSolutions-performed, fits-performed}
 use Rattle.bats_dense.proofs.dense.reduce.Goals as goal
 

@@ -1,4 +1,4 @@
-use Rattle.std.proofs.Common.{◌+◌, ◌∙◌, sym, subst, arith}
+use Rattle.std.proofs.Common.{◌+◌, ◌∙◌, sym, subst}
 use Rattle.bats_dense.specs.steps.Below.{AreUnused}
 use Rattle.bats_dense.proofs.UnusedLemmas.{AreUnused-used, AreUnused-push}
 use Rattle.bats_dense.proofs.dense.unused_rows.Goals.{then-not-used-place+in_ok-push, else-not-used-place}

@@ -1,5 +1,4 @@
-use Rattle.std.proofs.Common.{◌≡◌, ◌<◌, ◌≢◌, length, get_or, take, arith}
-use Rattle.std.specs.Prelude.{All}
+use Rattle.std.proofs.Common.{◌≢◌, get_or, take, arith}
 use Rattle.std.proofs.lemmas.List.Elements.{All-take}
 use Rattle.bats_dense.proofs.ClearLemmas.{Clears-none, Clears-more, Clears-row_within, Clears-column_within, Clears-pivot_one}
 use Rattle.bats_dense.proofs.rows.clear_rows.Goals as goal

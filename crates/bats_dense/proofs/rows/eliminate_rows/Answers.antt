@@ -1,5 +1,4 @@
-use Rattle.std.proofs.Common.{◌≡◌, ◌<◌, ◌+◌, ◌∙◌, length, get_or, sym, subst, arith}
-use Rattle.gf_rows.specs.Matrix.{Grid}
+use Rattle.std.proofs.Common.{◌<◌, ◌∙◌, get_or, sym, subst}
 use Rattle.gf_rows.proofs.SolutionLemmas.{length-performed}
 use Rattle.bats_dense.proofs.ClearLemmas.{Clears-pivot_one}
 use Rattle.bats_dense.proofs.EliminationLemmas.{earlier_of, later_of, rows_within, earlier_apart, later_apart, others_apart, earlier_within, later_within, Eliminates-done}
