@@ -1,6 +1,6 @@
 -- Kept packets are added one after another, up to an output.
-use Rattle.std.proofs.Common.{ℕ, ◌≡◌, ◌<◌, ◌≤◌, ◌+◌, ◌^◌, ◌∙◌, List, [], ◌∷◌, ◌++◌, length, get_or, take, map, replicate, sym, ap, subst, refl, arith}
-use Rattle.std.specs.Prelude.{All, slice_get, Option, Some}
+use Rattle.std.proofs.Common.{ℕ, ◌≡◌, ◌<◌, ◌+◌, ◌^◌, ◌∙◌, List, [], ◌∷◌, ◌++◌, length, get_or, take, map, replicate, sym, ap, subst, arith}
+use Rattle.std.specs.Prelude.{slice_get, Some}
 use Rattle.std.proofs.lemmas.List.{map-append, length-map, length-take-le, take_more}
 use Rattle.std.proofs.lemmas.List.Elements.{All-nil, All-push}
 use Rattle.std.proofs.lemmas.Option.{slice_get_within, get_or_from_slice_get}
@@ -9,7 +9,6 @@ use Rattle.gf_core.specs.Rows.{add_scaled_row}
 use Rattle.gf_core.specs.Combinations.{combination}
 use Rattle.gf_core.specs.Triangular.{AreRows}
 use Rattle.gf_core.proofs.CombinationLemmas.{length-combination, combination-push}
-use Rattle.gf_core.proofs.RowLemmas.{length-add_scaled_row}
 use Rattle.bats_model.specs.Session.{SessionData}
 use Rattle.bats_model.specs.Kept.{coefs_of}
 use Rattle.bats_model.specs.PacketFile.{HasShape}
