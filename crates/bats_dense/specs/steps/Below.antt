@@ -25,6 +25,7 @@ pub record IsReducedBelow (c : ℕ) (m : Grid) (eqs others : List ℕ) (used : L
   pub cleared : AreCleared m others pivot_columns
   pub places : length used ≡ length eqs
 
+-- what elimination has come to after the first c columns
 abbrev pub IsEliminatedBelow : ℕ → List ℕ → List ℕ → Progress → Type 0
 IsEliminatedBelow c eqs others p = IsReducedBelow c p.matrix eqs others p.used.items p.pivot_rows p.pivot_columns p.free
 
