@@ -1,5 +1,5 @@
 //! The reduction and its result.
-ghost use Rattle.std.specs.Prelude.{ℕ, ◌≡◌, ◌≢◌, ◌+◌, ◌*◌, ◌≤◌, All, AllPairs, IfOk, length};
+ghost use Rattle.std.specs.Prelude.{◌≡◌, ◌≢◌, ◌+◌, ◌*◌, ◌≤◌, All, AllPairs, IfOk, length};
 ghost use Rattle.gf_rows.specs.Operation.{FitsRows};
 ghost use Rattle.gf_rows.specs.Performed.{Performed};
 ghost use Rattle.bats_dense.specs.Reduced.{AreTargets, IsReduced};

@@ -1,10 +1,10 @@
 //! Elimination column by column.
-ghost use Rattle.std.specs.Prelude.{ℕ, ◌≡◌, ◌≢◌, ◌+◌, ◌*◌, ◌<◌, ◌≤◌, false, All, OnOk, MatchOption, length, slice_index};
+ghost use Rattle.std.specs.Prelude.{ℕ, ◌≡◌, ◌+◌, ◌*◌, ◌<◌, ◌≤◌, false, All, OnOk, MatchOption, length, slice_index};
 ghost use Rattle.gf_rows.specs.Matrix.{matrix_entry};
 ghost use Rattle.gf_rows.specs.Performed.{Performed};
 ghost use Rattle.bats_dense.specs.Reduced.{AreTargets};
 ghost use Rattle.bats_dense.specs.Kept.{KeepsOutside};
-ghost use Rattle.bats_dense.specs.steps.Below.{is_used, IsPivotPlace, IsReducedBelow, IsEliminatedBelow};
+ghost use Rattle.bats_dense.specs.steps.Below.{is_used, IsPivotPlace, IsEliminatedBelow};
 
 use crate::rows::eliminate_rows;
 use bats_model::Nums;

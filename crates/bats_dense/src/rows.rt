@@ -1,5 +1,5 @@
 //! The row operations of one column, each of which is done on the matrix and appended to the plan.
-ghost use Rattle.std.specs.Prelude.{◌≡◌, ◌≢◌, ◌+◌, ◌<◌, ◌≤◌, [], ◌∷◌, All, AllPairs, Contains, OnOk, length, slice_index};
+ghost use Rattle.std.specs.Prelude.{◌≡◌, ◌≢◌, ◌+◌, ◌<◌, ◌≤◌, [], ◌∷◌, All, OnOk, length, slice_index};
 ghost use Rattle.gf_rows.specs.Matrix.{matrix_entry};
 ghost use Rattle.bats_dense.specs.Reduced.{AreTargets};
 ghost use Rattle.bats_dense.specs.steps.Clearing.{Clears, Normalizes, Eliminates};
