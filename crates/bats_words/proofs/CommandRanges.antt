@@ -6,10 +6,10 @@ use Rattle.std.specs.Option.{option_and_then}
 use Rattle.std.proofs.lemmas.Option.{cond_some, option_and_then_some}
 use Rattle.std.specs.Str.Parse.{digits_value}
 use Rattle.bats_words.specs.declared.command.Command.{Command}
-use Rattle.bats_words.specs.declared.command.Command.TheVariants.{Source, Sink, Show}
+use Rattle.bats_words.specs.declared.command.Command.TheVariants.{Source, Relay, Sink, Show}
 use Rattle.bats_words.specs.Options.{InRanges}
-use Rattle.bats_words.specs.WordValues.{number_in, is_number_word, seed_of}
-use Rattle.bats_words.specs.Words.{command_of, read_or, source_of, sink_of, show_of}
+use Rattle.bats_words.specs.WordValues.{number_in, is_number_word, rule_of, seed_of}
+use Rattle.bats_words.specs.Words.{command_of, read_or, source_of, relay_of, sink_of, show_of}
 use Rattle.bats_words.proofs.EachCommand.{command_of-keeps}
 
 in_range : (b : Bool) (low v high n : ℕ) → cond (b && nat_le low v && nat_le v high) (Some v) None ≡ Some n → (low ≤ n) × (n ≤ high)
@@ -61,6 +61,17 @@ source_of-ranges value flag command h =
       batches_high = rb.1;
     })))))))
 
+relay_of-ranges : (value : List ℕ → Option (List ℕ)) (flag : List ℕ → Bool) (command : Command)
+    → relay_of value flag ≡ Some command → InRanges command
+unfolding relay_of
+relay_of-ranges value flag command h =
+    option_and_then_some _ (option_and_then seed_of (value (codes "--seed"))) command h (λ seed seed_is rest.
+    option_and_then_some _ (option_and_then rule_of (value (codes "--rule"))) command rest (λ extra extra_is rest'.
+    option_and_then_some _ (option_and_then (number_in 0 64) (value (codes "--count"))) command rest' (λ count count_is rest2.
+    let same : Relay seed extra count ≡ command = cc in
+    let r = option_range 0 64 count (value (codes "--count")) count_is in
+    subst (λ (c : Command). InRanges c) same (record { high = r.1 }))))
+
 sink_of-ranges : (value : List ℕ → Option (List ℕ)) (flag : List ℕ → Bool) (command : Command)
     → sink_of value flag ≡ Some command → InRanges command
 unfolding sink_of
@@ -82,4 +93,4 @@ show_of-ranges value flag command h =
 -- each command has its values in their ranges
 pub command_of-ranges : (words : List (List ℕ)) (command : Command) → command_of words ≡ Some command → InRanges command
 command_of-ranges words command h =
-    command_of-keeps (λ (c : Command). InRanges c) source_of-ranges sink_of-ranges show_of-ranges words command h
+    command_of-keeps (λ (c : Command). InRanges c) source_of-ranges relay_of-ranges sink_of-ranges show_of-ranges words command h
