@@ -132,7 +132,7 @@ impl Decoder {
     {
         self.prepare()?;
         let Some(column) = unit_place(packet.coefs.as_slice()) else {
-            return Ok(());
+            unreachable!()
         };
         let place = packet.batch as usize * usize::from(self.session.m()) + column;
         self.receive(place, packet.payload.as_slice());

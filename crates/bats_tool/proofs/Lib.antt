@@ -1,8 +1,2 @@
 pub mod Usage
 pub mod PromisesKept
-pub mod OneEnding
-pub mod SentPackets
-pub mod CommandSeeds
-pub mod GivenBack
-pub mod AllSymbols
-pub mod SourceAndSink

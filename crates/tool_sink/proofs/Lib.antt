@@ -1,3 +1,5 @@
 pub mod Received
 pub mod SinkAnswers
 pub mod SinkAttempts
+pub mod SinkKept
+pub mod SinkEndings

@@ -62,24 +62,16 @@ pub fn status_of_answer(answer: &Answer) -> Status
     }
 }
 
-// Writes two files, one after the other.
-fn write_both<O: Sink>(output: &mut O, first: &[u8], second: &[u8]) -> Result<(), Stop>
-    ensures { Writes (O.state output.old) (O.state output.new)
-        (first.now ++ second.now) (result_err result) }
-{
-    write_bytes(output, first)?;
-    write_bytes(output, second)
-}
-
-// Writes two files where both are asked for.
+// Writes two files, one after the other, where both are asked for.
 fn write_pair<O: Sink>(output: &mut O, both: bool, first: &[u8], second: &[u8]) -> Result<(), Stop>
     ensures { Writes (O.state output.old) (O.state output.new)
         (if both then (first.now ++ second.now) else []) (result_err result) }
 {
-    if both {
-        return write_both(output, first, second);
+    if !both {
+        return Ok(());
     }
-    Ok(())
+    write_bytes(output, first)?;
+    write_bytes(output, second)
 }
 
 /// Writes what an answer gives: the file, or both files where they are asked for, or nothing.

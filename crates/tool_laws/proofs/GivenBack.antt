@@ -9,7 +9,7 @@ use Rattle.bats_model.specs.Symbol.{symbol_byte}
 use Rattle.bats_model.specs.Plain.{IsPlain}
 use Rattle.bats_model.specs.PacketFile.{IsPacketFile, packets_of}
 use Rattle.bats_model.specs.Agreement.{Agrees, AgreesWithAll}
-use Rattle.bats_model.specs.RightAnswer.{IsRightAnswer, IsOnlyFile}
+use Rattle.bats_model.specs.RightAnswer.{IsRightAnswer}
 use Rattle.bats_model.specs.declared.packet.Packet.{Packet}
 use Rattle.bats_model.specs.declared.item.Item.{Item}
 use Rattle.bats_model.specs.declared.item.Item.TheVariants as items
@@ -23,21 +23,13 @@ use Rattle.tool_run.specs.declared.status.Status.TheVariants as statuses
 use Rattle.bats_words.specs.Options.{HasRanges}
 use Rattle.tool_source.specs.FileSession.{session_for}
 use Rattle.tool_run.specs.Ending.{Ending}
-use Rattle.tool_source.specs.Source.{source_ending}
+use Rattle.tool_source.specs.Source.{source_ending, source_promise}
 use Rattle.tool_sink.specs.Sink.{SinkIsNotBuilt, IsSinkEnding, answer_ending}
-use Rattle.bats_tool.proofs.OneEnding.{refused}
-use Rattle.bats_tool.proofs.SentPackets.{Sends, packets_for, AgreesWithAll-sent, IsFile-for, file_for}
+use Rattle.tool_laws.specs.GivesBack.{GivesBack}
+use Rattle.tool_laws.proofs.OneEnding.{refused}
+use Rattle.tool_laws.proofs.SentPackets.{Sends, packets_for, AgreesWithAll-sent, IsFile-for, file_for}
 
 -- ---- packets with which a file agrees
-
--- all packets are plain, and the ending is the file's, where no other agrees, or need-more, where another does; or a
--- packet that isn't plain can't be taken yet
-abbrev pub GivesBack : SessionData → List Packet → List ℕ → Ending → Type 0
-GivesBack session packets file ending =
-    (All (IsPlain session) packets
-    × (((ending.status ≡ statuses.Done) × (ending.output ≡ file) × IsOnlyFile session packets file)
-    ⊎ ((ending.status ≡ statuses.NeedMore) × ¬ IsOnlyFile session packets file)))
-    ⊎ ((ending.status ≡ statuses.NotBuilt) × ¬ All (IsPlain session) packets)
 
 GivesBack-answer : (both : Bool) (session : SessionData) (packets others : List Packet) (file : List ℕ) (answer : Answer)
     → All (IsPlain session) packets → IsRightAnswer session packets answer → AgreesWithAll session packets file
@@ -110,6 +102,12 @@ done_or_nothing input ending (inr (inl k)) = inr (ap (λ (x : Ending). x.output)
 done_or_nothing input ending (inr (inr k)) = inr (ap (λ (x : Ending). x.output) k.ending_is)
 
 -- ---- packets that `source` sends
+
+-- what was sent is the ending on the file
+pub of_sent : (o : SourceOptions) (file : List ℕ) (sent : Ending) (records : List Item) → (source_promise o).ends file sent
+    → IsPacketFile (session_for o (length file)) records sent.output
+    → IsPacketFile (session_for o (length file)) records (source_ending o file).output
+of_sent o file sent records is k = subst (λ (x : Ending). IsPacketFile (session_for o (length file)) records x.output) is k
 
 -- a packet file of the output has the packets that are sent
 pub sent_of : (o : SourceOptions) (file : List ℕ) (sent : List Item) → HasRanges o → AreBytes file

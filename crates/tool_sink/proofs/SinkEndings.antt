@@ -1,4 +1,4 @@
--- The endings that words and input allow agree, but for the two files of need-more.
+-- The endings of a sink that an input allows agree, but for the two files of need-more.
 use Rattle.std.proofs.Common.{ℕ, ◌≡◌, ◌≤◌, ◌⊎◌, ◌∙◌, inl, inr, suc, sym, ap, refl, subst, Bool, List, [], ◌∷◌, ◌++◌, length, Option, None, Some, append-nil, arith}
 use Rattle.std.specs.Prelude.{All}
 use Rattle.std.proofs.lemmas.List.{length-append}
@@ -6,7 +6,7 @@ use Rattle.bats_model.specs.Session.{SessionData}
 use Rattle.bats_model.specs.Plain.{IsPlain}
 use Rattle.bats_model.specs.Kept.{kept_count}
 use Rattle.bats_model.specs.PacketFile.{packets_of}
-use Rattle.bats_model.specs.Refusal.{HasFront, RefusesRecord, IsRefused}
+use Rattle.bats_model.specs.Refusal.{HasFront, IsRefused}
 use Rattle.bats_model.specs.RightAnswer.{IsRightAnswer, AreAlike}
 use Rattle.bats_model.specs.declared.packet.Packet.{Packet}
 use Rattle.bats_model.specs.declared.item.Item.{Item}
@@ -15,19 +15,15 @@ use Rattle.bats_model.specs.declared.answer.Answer.{Answer}
 use Rattle.bats_model.specs.declared.answer.Answer.TheVariants.{File, Inconsistent, NeedMore}
 use Rattle.bats_model.specs.declared.read_end.ReadEnd.{ReadEnd}
 use Rattle.bats_model.proofs.RightAnswers.{AreAlike-right}
-use Rattle.bats_format.proofs.PacketFiles.{same_file, same_files, further_items}
+use Rattle.bats_format.proofs.PacketFiles.{same_file, further_items}
 use Rattle.bats_format.proofs.Refusals.{refused_once, no_file_refused}
-use Rattle.bats_words.specs.declared.command.Command.{Command}
-use Rattle.bats_words.specs.declared.command.Command.TheVariants as commands
 use Rattle.tool_run.specs.declared.status.Status.TheVariants as statuses
 use Rattle.tool_run.specs.Ending.{Ending}
 use Rattle.tool_records.specs.Reading.{IsReading, refused_ending}
-use Rattle.tool_stream.specs.Show.{IsShowEnding, show_ending}
 use Rattle.tool_sink.specs.Sink.{ArePlain, SinkAnswers, SinkRefuses, SinkIsNotBuilt, IsSinkEnding, answer_ending, file_line, need_more_line}
-use Rattle.bats_tool.specs.Promises.{IsEnding}
 
 -- both endings have one status and one notes line, and one output, but for need-more
-abbrev Agree : Ending → Ending → Type 0
+abbrev pub Agree : Ending → Ending → Type 0
 Agree ending other = (ending.status ≡ other.status) × (ending.line ≡ other.line)
     × ((ending.output ≡ other.output) ⊎ (ending.status ≡ statuses.NeedMore))
 
@@ -38,71 +34,13 @@ Agree-same ending other e = (
   inl (ap (λ (x : Ending). x.output) e),
 )
 
--- ---- one reading
-
--- what two readings of one input have in common
-record AreSame (session other : Option SessionData) (list others : List Item) (end last : Option ReadEnd) : Type 0 where
-  sessions : session ≡ other
-  lists : list ≡ others
-  ends : end ≡ last
-
--- the item records read before a refusal are the same
-same_refused : (input : List ℕ) (session other : SessionData) (list others : List Item) (end last : ReadEnd)
-    → RefusesRecord input session list end → RefusesRecord input other others last → (session ≡ other) × (list ≡ others)
-same_refused input session other list others end last h k =
-    let f = h.longest.is_front in
-    let g = k.longest.is_front in
-    let over = h.longest.longest other others k.front k.rest g in
-    let under = k.longest.longest session list h.front h.rest f in
-    let same = same_files session other list others h.front h.rest k.front k.rest f.file g.file (sym f.split ∙ g.split) (omega arith) in
-    (same.0, same.1)
-
 -- a reading that ends at a refusal is one
-pub refused : (input : List ℕ) (session : Option SessionData) (list : List Item) (end : ReadEnd) → IsReading input session list (Some end)
+IsRefused-reading : (input : List ℕ) (session : Option SessionData) (list : List Item) (end : ReadEnd) → IsReading input session list (Some end)
     → IsRefused input end
-refused input None list end h = inl h.1
-refused input (Some session) list end h = inr (session, list, h)
+IsRefused-reading input None list end h = inl h.1
+IsRefused-reading input (Some session) list end h = inr (session, list, h)
 
-same_reading : (input : List ℕ) (session other : Option SessionData) (list others : List Item) (end last : Option ReadEnd)
-    → IsReading input session list end → IsReading input other others last → AreSame session other list others end last
-same_reading input None other list others None last h k = absurd h
-same_reading input session None list others end None h k = absurd k
-same_reading input (Some session) (Some other) list others None None h k =
-    let same = same_file session other list others input h k in
-    record { sessions = ap (λ (x : SessionData). Some x) same.0; lists = same.1; ends = refl }
-same_reading input (Some session) other list others None (Some last) h k =
-    absurd (no_file_refused session list input last h (refused input other others last k))
-same_reading input session (Some other) list others (Some end) None h k =
-    absurd (no_file_refused other others input end k (refused input session list end h))
-same_reading input None None list others (Some end) (Some last) h k = record {
-  sessions = refl;
-  lists = h.0 ∙ sym k.0;
-  ends = ap (λ (x : ReadEnd). Some x) (refused_once input end last (inl h.1) (inl k.1));
-}
-same_reading input None (Some other) list others (Some end) (Some last) h k =
-    absurd (h.1.none other others k.front k.rest k.longest.is_front)
-same_reading input (Some session) None list others (Some end) (Some last) h k =
-    absurd (k.1.none session list h.front h.rest h.longest.is_front)
-same_reading input (Some session) (Some other) list others (Some end) (Some last) h k =
-    let same = same_refused input session other list others end last h k in
-    record {
-      sessions = ap (λ (x : SessionData). Some x) same.0;
-      lists = same.1;
-      ends = ap (λ (x : ReadEnd). Some x)
-          (refused_once input end last (inr (session, list, h)) (inr (other, others, k)));
-    }
-
-Agree-show : (input : List ℕ) (ending other : Ending) → IsShowEnding input ending → IsShowEnding input other → Agree ending other
-Agree-show input ending other h k =
-    let same = same_reading input h.session k.session h.list k.list h.end k.end h.reading k.reading in
-    Agree-same ending other
-    (h.ending_is
-    ∙ ap (λ (x : Option SessionData). show_ending x h.list h.end) same.sessions
-    ∙ ap (λ (x : List Item). show_ending k.session x h.end) same.lists
-    ∙ ap (λ (x : Option ReadEnd). show_ending k.session k.list x) same.ends
-    ∙ sym k.ending_is)
-
--- ---- the sink
+-- ---- answers
 
 alike_endings : (both : Bool) (packets : List Packet) (answer other : Answer) → AreAlike answer other
     → Agree (answer_ending both packets answer) (answer_ending both packets other)
@@ -135,7 +73,7 @@ Agree-answers both input ending other h k =
 
 Agree-refuses : (input : List ℕ) (ending other : Ending) → SinkRefuses input ending → SinkRefuses input other → Agree ending other
 Agree-refuses input ending other h k =
-    let same = refused_once input h.end k.end (refused input h.session h.list h.end h.reading) (refused input k.session k.list k.end k.reading) in
+    let same = refused_once input h.end k.end (IsRefused-reading input h.session h.list h.end h.reading) (IsRefused-reading input k.session k.list k.end k.reading) in
     Agree-same ending other (h.ending_is ∙ ap (refused_ending []) same ∙ sym k.ending_is)
 
 -- a packet between others, each of which is plain, is plain
@@ -185,26 +123,16 @@ no_refusal input ending other h k = no_reading input h.session h.list h.end othe
 
 no_both : (both : Bool) (input : List ℕ) (ending other : Ending) → SinkAnswers both input ending → SinkRefuses input other → ⊥
 no_both both input ending other h k =
-    no_file_refused h.session h.list input k.end h.file (refused input k.session k.list k.end k.reading)
+    no_file_refused h.session h.list input k.end h.file (IsRefused-reading input k.session k.list k.end k.reading)
 
-Agree-sink : (both : Bool) (input : List ℕ) (ending other : Ending) → IsSinkEnding both input ending → IsSinkEnding both input other
+pub IsSinkEnding-agree : (both : Bool) (input : List ℕ) (ending other : Ending) → IsSinkEnding both input ending → IsSinkEnding both input other
     → Agree ending other
-Agree-sink both input ending other (inl h) (inl k) = Agree-answers both input ending other h k
-Agree-sink both input ending other (inl h) (inr (inl k)) = absurd (no_both both input ending other h k)
-Agree-sink both input ending other (inl h) (inr (inr k)) = absurd (no_answer both input ending other h k)
-Agree-sink both input ending other (inr (inl h)) (inl k) = absurd (no_both both input other ending k h)
-Agree-sink both input ending other (inr (inl h)) (inr (inl k)) = Agree-refuses input ending other h k
-Agree-sink both input ending other (inr (inl h)) (inr (inr k)) = absurd (no_refusal input ending other h k)
-Agree-sink both input ending other (inr (inr h)) (inl k) = absurd (no_answer both input other ending k h)
-Agree-sink both input ending other (inr (inr h)) (inr (inl k)) = absurd (no_refusal input other ending k h)
-Agree-sink both input ending other (inr (inr h)) (inr (inr k)) = Agree-same ending other (h.ending_is ∙ sym k.ending_is)
-
--- ---- each command
-
-pub one_ending : (command : Option Command) (input : List ℕ) (ending other : Ending) → IsEnding command input ending
-    → IsEnding command input other
-    → (ending.status ≡ other.status) × (ending.line ≡ other.line) × ((ending.output ≡ other.output) ⊎ (ending.status ≡ statuses.NeedMore))
-one_ending None input ending other h k = Agree-same ending other (h ∙ sym k)
-one_ending (Some (commands.Source m t table systematic seed first batches)) input ending other h k = Agree-same ending other (h ∙ sym k)
-one_ending (Some (commands.Sink workers both)) input ending other h k = Agree-sink both input ending other h k
-one_ending (Some commands.Show) input ending other h k = Agree-show input ending other h k
+IsSinkEnding-agree both input ending other (inl h) (inl k) = Agree-answers both input ending other h k
+IsSinkEnding-agree both input ending other (inl h) (inr (inl k)) = absurd (no_both both input ending other h k)
+IsSinkEnding-agree both input ending other (inl h) (inr (inr k)) = absurd (no_answer both input ending other h k)
+IsSinkEnding-agree both input ending other (inr (inl h)) (inl k) = absurd (no_both both input other ending k h)
+IsSinkEnding-agree both input ending other (inr (inl h)) (inr (inl k)) = Agree-refuses input ending other h k
+IsSinkEnding-agree both input ending other (inr (inl h)) (inr (inr k)) = absurd (no_refusal input ending other h k)
+IsSinkEnding-agree both input ending other (inr (inr h)) (inl k) = absurd (no_answer both input other ending k h)
+IsSinkEnding-agree both input ending other (inr (inr h)) (inr (inl k)) = absurd (no_refusal input other ending k h)
+IsSinkEnding-agree both input ending other (inr (inr h)) (inr (inr k)) = Agree-same ending other (h.ending_is ∙ sym k.ending_is)

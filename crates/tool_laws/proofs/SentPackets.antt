@@ -24,9 +24,8 @@ use Rattle.bats_words.specs.declared.source_options.SourceOptions.{SourceOptions
 use Rattle.tool_run.specs.declared.status.Status.TheVariants as statuses
 use Rattle.bats_words.specs.Options.{HasRanges}
 use Rattle.tool_source.specs.FileSession.{session_for}
-use Rattle.tool_source.specs.Source.{source_output, packet_records, batch_records, coded_record}
+use Rattle.tool_source.specs.Source.{source_output, packet_records, batch_records, coded_record, source_ending, source_promise}
 use Rattle.tool_run.specs.Ending.{Ending}
-use Rattle.tool_source.specs.Source.{source_ending}
 use Rattle.tool_source.proofs.Endings.{done_ending, source_ending-done}
 
 -- ---- packets, one after another
@@ -239,18 +238,17 @@ file_for o file h =
     subst (IsFileOf (session_for o (length file)) (packets_for o file)) (sym (output_for o file h))
     (file_of (session_for o (length file)) (packets_for o file) (IsSession-for o file h) (shapes_for o file h.ranges h.bytes) (few_for o file h.ranges))
 
-pub sends_a_packet_file : (o : SourceOptions) (file : List ℕ) → HasRanges o → length o.seed ≡ 16 → AreBytes o.seed → AreBytes file
-    → symbols_of (session_for o (length file)) ≤ 4096
+pub sends_a_packet_file : (o : SourceOptions) (file : List ℕ) → Sends o file
     → ((source_ending o file).status ≡ statuses.Done)
     × ((list : List Item)
     × (IsPacketFile (session_for o (length file)) list (source_ending o file).output
     × (length (packets_of list) ≡ o.batches * o.m)
     × AgreesWithAll (session_for o (length file)) (packets_of list) file))
-sends_a_packet_file o file ranges seed seed_bytes bytes symbols =
+sends_a_packet_file o file h =
     let session = session_for o (length file) in
-    let sent = file_for o file (record { ranges = ranges; seed = seed; seed_bytes = seed_bytes; bytes = bytes; symbols = symbols }) in
-    let agrees = AgreesWithAll-sent session file o.first o.batches (IsFile-for o file bytes) in (
-      status_for o file symbols,
+    let sent = file_for o file h in
+    let agrees = AgreesWithAll-sent session file o.first o.batches (IsFile-for o file h.bytes) in (
+      status_for o file h.symbols,
       (
         sent.list,
         (
@@ -260,3 +258,17 @@ sends_a_packet_file o file ranges seed seed_bytes bytes symbols =
         ),
       ),
     )
+
+-- so of each ending that is promised
+pub sends_as_promised : (o : SourceOptions) (file : List ℕ) (ending : Ending) → Sends o file → (source_promise o).ends file ending
+    → (ending.status ≡ statuses.Done)
+    × ((list : List Item)
+    × (IsPacketFile (session_for o (length file)) list ending.output
+    × (length (packets_of list) ≡ o.batches * o.m)
+    × AgreesWithAll (session_for o (length file)) (packets_of list) file))
+sends_as_promised o file ending h is =
+    subst (λ (x : Ending). (x.status ≡ statuses.Done)
+    × ((list : List Item)
+    × (IsPacketFile (session_for o (length file)) list x.output
+    × (length (packets_of list) ≡ o.batches * o.m)
+    × AgreesWithAll (session_for o (length file)) (packets_of list) file))) (sym is) (sends_a_packet_file o file h)

@@ -29,8 +29,9 @@ use Rattle.tool_run.specs.Ending.{Ending}
 use Rattle.tool_source.specs.Source.{source_ending}
 use Rattle.tool_sink.specs.Sink.{IsSinkEnding}
 use Rattle.tool_source.proofs.Counts.{length-within, length-beyond}
-use Rattle.bats_tool.proofs.SentPackets.{Sends, sent_packet, batch_packets, sent_packets, packets_for, All-sent, file_for}
-use Rattle.bats_tool.proofs.GivenBack.{GivesBack, sent_of, AgreesWithAll-among, gives_back_among}
+use Rattle.tool_laws.proofs.SentPackets.{Sends, sent_packet, batch_packets, sent_packets, packets_for, All-sent, file_for}
+use Rattle.tool_laws.specs.GivesBack.{GivesBack}
+use Rattle.tool_laws.proofs.GivenBack.{sent_of, AgreesWithAll-among, gives_back_among}
 
 -- ---- the packets that are sent
 

@@ -1,0 +1,6 @@
+mod OneEnding
+mod SentPackets
+mod CommandSeeds
+mod GivenBack
+mod AllSymbols
+mod SourceAndSink

@@ -1,0 +1,110 @@
+//! Laws on the endings that commands promise, each the contract of a function with an empty body.
+ghost use Rattle.std.specs.Prelude.{ℕ, ◌≡◌, ◌≤◌, ◌*◌, ◌⊎◌, Bool, true, false, List, [], All, length, Some};
+ghost use Rattle.std.specs.Int.{div_ceil};
+ghost use Rattle.std.specs.List.{Contains};
+ghost use Rattle.bats_model.specs.Bytes.{AreBytes};
+ghost use Rattle.bats_model.specs.Session.{SessionData, symbols_of, symbol_count};
+ghost use Rattle.bats_model.specs.PacketFile.{IsPacketFile, packets_of};
+ghost use Rattle.bats_model.specs.Agreement.{AgreesWithAll};
+ghost use Rattle.bats_model.specs.declared.item.Item.{Item};
+ghost use Rattle.bats_words.specs.declared.command.Command.TheVariants as commands;
+ghost use Rattle.bats_words.specs.declared.source_options.SourceOptions.{SourceOptions};
+ghost use Rattle.bats_words.specs.Options.{HasRanges, source_options};
+ghost use Rattle.bats_words.specs.Words.{command_of};
+ghost use Rattle.tool_run.specs.declared.status.Status.TheVariants as statuses;
+ghost use Rattle.tool_run.specs.Ending.{Ending};
+ghost use Rattle.tool_run.specs.Promise.{reads_nothing};
+ghost use Rattle.tool_source.specs.FileSession.{session_for};
+ghost use Rattle.tool_source.specs.Source.{source_promise};
+ghost use Rattle.tool_sink.specs.Sink.{sink_promise};
+ghost use Rattle.tool_stream.specs.Show.{show_promise};
+ghost use Rattle.tool_laws.specs.GivesBack.{GivesBack};
+
+/// A command has one ending on an input. But for `sink` with need-more the output is free, where two agreeing files are
+/// asked for.
+pub fn one_ending()
+    ensures nothing { (end : Ending) (input : List ℕ) (ending other : Ending)
+        → (reads_nothing end).ends input ending → (reads_nothing end).ends input other → ending ≡ other }
+    ensures source { (options : SourceOptions) (input : List ℕ) (ending other : Ending)
+        → (source_promise options).ends input ending → (source_promise options).ends input other → ending ≡ other }
+    ensures sink { (both : Bool) (input : List ℕ) (ending other : Ending)
+        → (sink_promise both).ends input ending → (sink_promise both).ends input other
+        → (ending.status ≡ other.status) × (ending.line ≡ other.line) × (ending.reach ≡ other.reach)
+        × ((ending.output ≡ other.output) ⊎ (ending.status ≡ statuses.NeedMore)) }
+    ensures show { (input : List ℕ) (ending other : Ending)
+        → show_promise.ends input ending → show_promise.ends input other → ending ≡ other }
+{}
+
+/// What `source` writes of a file that is not too long is a packet file of the file's session, with batches times m
+/// packets, and the file agrees with all of them.
+pub fn source_sends_a_packet_file()
+    ensures { (options : SourceOptions) (file : List ℕ) (ending : Ending) → HasRanges options
+        → length options.seed ≡ 16 → AreBytes options.seed → AreBytes file
+        → symbols_of (session_for options (length file)) ≤ 4096
+        → (source_promise options).ends file ending
+        → (ending.status ≡ statuses.Done)
+        × ((list : List Item)
+        × (IsPacketFile (session_for options (length file)) list ending.output
+        × (length (packets_of list) ≡ options.batches * options.m)
+        × AgreesWithAll (session_for options (length file)) (packets_of list) file)) }
+{}
+
+/// On a packet file of plain packets with which a file agrees, `sink` ends as done with that file, where no other
+/// agrees, and else with need-more; if a packet isn't plain, as not built. It says neither that no file agrees nor that
+/// the input is at fault. On any input, where the two files of need-more aren't asked for, an ending other than done
+/// writes nothing.
+pub fn sink_gives_the_file_that_agrees()
+    ensures file { (session : SessionData) (list : List Item) (input file : List ℕ) (both : Bool) (ending : Ending)
+        → IsPacketFile session list input → AgreesWithAll session (packets_of list) file
+        → (sink_promise both).ends input ending → GivesBack session (packets_of list) file ending }
+    ensures or_nothing { (input : List ℕ) (ending : Ending) → (sink_promise false).ends input ending
+        → (ending.status ≡ statuses.Done) ⊎ (ending.output ≡ []) }
+{}
+
+/// On any choice of the packets that `source` sends, in any order and with repeats, `sink` ends as done only with the
+/// file that was sent, where no other agrees; else with need-more, and as not built where a packet isn't plain.
+pub fn sink_gives_what_source_sends()
+    ensures { (options : SourceOptions) (file : List ℕ) (sent ending : Ending) (records list : List Item)
+        (input : List ℕ) (both : Bool) → HasRanges options → AreBytes file
+        → (source_promise options).ends file sent
+        → IsPacketFile (session_for options (length file)) records sent.output
+        → IsPacketFile (session_for options (length file)) list input
+        → All (Contains (packets_of records)) (packets_of list)
+        → (sink_promise both).ends input ending
+        → GivesBack (session_for options (length file)) (packets_of list) file ending }
+{}
+
+/// Where `source` sends each symbol once, in systematic batches, `sink` ends as done with the file on all these
+/// packets, in any order and with repeats.
+pub fn sink_gives_a_file_sent_whole()
+    ensures { (options : SourceOptions) (file : List ℕ) (sent ending : Ending) (records list : List Item)
+        (input : List ℕ) (both : Bool) → HasRanges options → AreBytes file
+        → options.systematic ≡ true → options.first ≡ 0
+        → options.batches ≡ div_ceil (symbols_of (session_for options (length file))) options.m
+        → (source_promise options).ends file sent
+        → IsPacketFile (session_for options (length file)) records sent.output
+        → IsPacketFile (session_for options (length file)) list input
+        → All (Contains (packets_of records)) (packets_of list)
+        → All (Contains (packets_of list)) (packets_of records)
+        → (sink_promise both).ends input ending
+        → (ending.status ≡ statuses.Done) × (ending.output ≡ file) }
+{}
+
+/// Words that are a command `source` and send a file, and then `sink` on what was sent: it ends as done only with that
+/// file, and does so where each symbol was sent once, in systematic batches.
+pub fn sink_after_source()
+    ensures no_other { (words : List (List ℕ)) (m t table : ℕ) (systematic : Bool) (seed : List ℕ)
+        (first batches : ℕ) (both : Bool) (file : List ℕ) (sent ending : Ending)
+        → command_of words ≡ Some (commands.Source m t table systematic seed first batches) → AreBytes file
+        → (source_promise (source_options m t table systematic seed first batches)).ends file sent
+        → sent.status ≡ statuses.Done → (sink_promise both).ends sent.output ending
+        → ((ending.status ≡ statuses.Done) × (ending.output ≡ file))
+        ⊎ ((ending.status ≡ statuses.NeedMore) ⊎ (ending.status ≡ statuses.NotBuilt)) }
+    ensures whole { (words : List (List ℕ)) (m t table : ℕ) (seed : List ℕ) (batches : ℕ) (both : Bool)
+        (file : List ℕ) (sent ending : Ending)
+        → command_of words ≡ Some (commands.Source m t table true seed 0 batches)
+        → batches ≡ div_ceil (symbol_count (length file) t) m → AreBytes file
+        → (source_promise (source_options m t table true seed 0 batches)).ends file sent
+        → sent.status ≡ statuses.Done → (sink_promise both).ends sent.output ending
+        → (ending.status ≡ statuses.Done) × (ending.output ≡ file) }
+{}
