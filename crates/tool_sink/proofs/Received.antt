@@ -1,28 +1,24 @@
 -- What a walk has received whose taker is a sink's receiver.
-use Rattle.std.proofs.Common.{true, arith, ℕ, ◌≡◌, List, [], ◌∷◌, ◌++◌, length, Option, None, Some, Result, Ok, Err, refl, sym, ap, ◌∙◌, subst, append-nil}
+use Rattle.std.proofs.Common.{true, ℕ, ◌≡◌, List, [], ◌∷◌, ◌++◌, Option, None, Some, Result, Ok, Err, refl, sym, ◌∙◌, subst, append-nil}
 use Rattle.std.specs.Prelude.{IsSome}
 use Rattle.std.specs.List.{All}
-use Rattle.std.proofs.lemmas.List.{length-append}
 use Rattle.std.proofs.lemmas.List.Elements.{All-append, All-head, All-tail, All-nil, All-push}
-use Rattle.bats_io.specs.Streams.{InputState, OutputState, IsTold, IsRead, IsEnded}
-use Rattle.bats_io.proofs.ReadLemmas.{IsTold-after, told_or, IsTold-told_or}
+use Rattle.bats_io.specs.Streams.{InputState, OutputState, IsTold, IsEnded}
 use Rattle.bats_model.specs.Session.{SessionData}
 use Rattle.bats_model.specs.Plain.{IsPlain}
-use Rattle.bats_model.specs.PacketFile.{IsPacketFile, IsItemAt, BeginsWithHeader, record_of, packets_of}
-use Rattle.bats_model.specs.Refusal.{HasFront}
+use Rattle.bats_model.specs.PacketFile.{IsPacketFile, IsItemAt, BeginsWithHeader, packets_of}
 use Rattle.bats_model.specs.declared.packet.Packet.{Packet}
 use Rattle.bats_model.specs.declared.item.Item.{Item}
 use Rattle.bats_model.specs.declared.item.Item.TheVariants as items
 use Rattle.bats_format.proofs.JoinedFiles.{packets_of-append}
-use Rattle.bats_format.proofs.RecordLemmas.{same_items, record_of-some}
 use Rattle.bats_decode.specs.Decoder.{DecoderData, StandsFor}
 use Rattle.tool_run.specs.declared.stop.Stop.{Stop}
 use Rattle.tool_run.specs.Streams.{Ends}
 use Rattle.tool_records.specs.declared.walking.Taken.{Taken}
 use Rattle.tool_records.specs.declared.walking.Taken.TheVariants as takes
-use Rattle.tool_records.specs.Walk.{GivenSoFar, ReadsItems, ReadsLast, WalksToEnd, WalksToItem}
-use Rattle.tool_records.specs.ReadsRecords.{AreRecords, ReadsOn, ReadsRecords}
-use Rattle.tool_records.proofs.RecordsRead.{stops_within, record_of-within}
+use Rattle.tool_records.specs.Walk.{GivenSoFar, WalksToEnd}
+use Rattle.tool_records.specs.ReadsRecords.{ReadsOn, ReadsRecords}
+use Rattle.tool_records.proofs.WalksRead.{same_last, ReadsRecords-items}
 use Rattle.tool_sink.specs.Sink.{ArePlain, takes_plain}
 use Rattle.tool_sink.specs.steps.Receiving.{HasShapeOf, Receives, ReceivesAs, StandsForItems, EndsNotPlain, IsNotPlain, TakesIn, TakesItem}
 
@@ -103,44 +99,7 @@ pub Receives-item : (session : SessionData) (list : List Item) (item : Item) (d 
 Receives-item session list item d d' start now result same h t =
     record { as_far = received_as session list item d d' result h t; nothing_written = same }
 
--- ---- how far the input was read
-
--- the records of plain items, and then no whole record
-pub reads_items : (session : Option SessionData) (list : List Item) (a b : Option (List ℕ)) → ReadsItems session list a b
-    → ReadsOn takes_plain session list → ReadsRecords takes_plain a b
-reads_items session list a b q on = record {
-  session = session;
-  list = list;
-  front = q.front;
-  begun = q.begun;
-  records = q.records;
-  reads_on = on;
-  read = q.read;
-  within = q.within;
-  stops = stops_within takes_plain session list q.front q.begun (length q.front) refl q.none;
-}
-
--- no record is empty
-no_record : (session : SessionData) (item : Item) (more : List ℕ) → [] ≡ record_of session item ++ more → ⊥
-no_record session item more e =
-    omega (arith, ap length e, length-append (record_of session item) more, record_of-some session item)
-
--- the records of plain items alone
-pub reads_plain : (session : SessionData) (list : List Item) (item : Item) (a b : Option (List ℕ)) → ReadsLast session list item a b
-    → ArePlain (Some session) (list ++ item ∷ []) → ReadsRecords takes_plain a b
-reads_plain session list item a b q plain =
-    let front : List ℕ = q.front ++ record_of session item in
-    record {
-      session = Some session;
-      list = list ++ item ∷ [];
-      front = front;
-      begun = [];
-      records = q.file;
-      reads_on = plain;
-      read = subst (λ (xs : List ℕ). IsRead a b xs) (sym (append-nil front)) q.read;
-      within = omega arith;
-      stops = λ other more at e. absurd (no_record session other more e);
-    }
+-- ---- the first packet that isn't plain
 
 one_not_plain : (session : SessionData) (at : ℕ) (packet : Packet) → ¬ IsPlain session packet
     → All (IsPlain session) (packets_of (items.Packet at packet ∷ [])) → ⊥
@@ -152,59 +111,13 @@ All-append_right P [] ys h = h
 All-append_right P (x ∷ xs) ys h = All-append_right P xs ys (All-tail P x (xs ++ ys) h)
 
 -- items of which the last is a packet that isn't plain
-stops_at : (session : SessionData) (list : List Item) (item : Item) → IsNotPlain session item
+pub stops_at : (session : SessionData) (list : List Item) (item : Item) → IsNotPlain session item
     → All (IsPlain session) (packets_of (list ++ item ∷ [])) → ⊥
 stops_at session list item n plain =
     one_not_plain session n.at n.packet n.not_plain
     (subst (λ (i : Item). All (IsPlain session) (packets_of (i ∷ []))) n.item_is
     (All-append_right (IsPlain session) (packets_of list) (packets_of (item ∷ []))
     (subst (λ (xs : List Packet). All (IsPlain session) xs) (packets_of-append list (item ∷ [])) plain)))
-
--- a packet is no first item
-no_first : (known : Option SessionData) (session : SessionData) (list : List Item) (item : Item) (front : List ℕ) → IsNotPlain session item
-    → AreRecords known list front → BeginsWithHeader (list ++ item ∷ []) → IsSome known
-no_first None session list item front n r h =
-    absurd (subst (λ (i : Item). BeginsWithHeader (i ∷ [])) n.item_is
-    (subst (λ (xs : List Item). BeginsWithHeader (xs ++ item ∷ [])) r.1 h))
-no_first (Some known) session list item front n r h = refl
-
-records_of : (known : Option SessionData) (session : SessionData) (list : List Item) (front : List ℕ) → known ≡ Some session
-    → AreRecords known list front → IsPacketFile session list front
-records_of known session list front e r = subst (λ (s : Option SessionData). AreRecords s list front) e r
-
--- the records of plain items, and then exactly that of a packet that isn't plain
-pub reads_not_plain : (session : SessionData) (list : List Item) (item : Item) (a b : Option (List ℕ)) → ReadsLast session list item a b
-    → ArePlain (Some session) list → IsNotPlain session item → ReadsRecords takes_plain a b
-reads_not_plain session list item a b q plain n =
-    let known : q.known ≡ Some session = q.same (no_first q.known session list item q.front n q.records q.file.header) in
-    record {
-      session = Some session;
-      list = list;
-      front = q.front;
-      begun = record_of session item;
-      records = records_of q.known session list q.front known q.records;
-      reads_on = plain;
-      read = q.read;
-      within = record_of-within session (length list) (length q.front) item
-          (omega (arith, q.file.few, length-append list (item ∷ []))) q.file.is_session q.place;
-      stops = λ other more at e.
-          let first : record_of session item ++ [] ≡ record_of session other ++ more = append-nil (record_of session item) ∙ e in
-          let one = same_items session (length q.front) item other [] more q.place at first in
-          (sym one.rest, λ plain. stops_at session list other (subst (λ (i : Item). IsNotPlain session i) one.same n) plain);
-    }
-
--- ---- the first packet that isn't plain
-
--- the last of two lists with one item more
-same_last : {X : Type 0} (xs ys : List X) (x y : X) → xs ++ x ∷ [] ≡ ys ++ y ∷ [] → (xs ≡ ys) × (x ≡ y)
-same_last [] [] x y e = (refl, cc)
-same_last [] (b ∷ ys) x y e = absurd (omega (arith, ap length e, length-append ys (y ∷ [])))
-same_last (a ∷ xs) [] x y e = absurd (omega (arith, ap length e, length-append xs (x ∷ [])))
-same_last (a ∷ xs) (b ∷ ys) x y e =
-    let first : a ≡ b = cc in
-    let rest : xs ++ x ∷ [] ≡ ys ++ y ∷ [] = cc in
-    let same = same_last xs ys x y rest in
-    (cc, same.1)
 
 -- the item at which a receiver halts, and those before it
 pub record MeetsNotPlain (session : SessionData) (list : List Item) (item : Item) : Type 0 where
@@ -272,49 +185,7 @@ HasReceivedAll-walked decoder d x y e w =
       end = w.end;
       file = subst (λ (s : SessionData). IsPacketFile s w.list w.input) (sym stands.0) w.file;
       decoder_stands = stands.1;
-      reads = reads_items (Some w.session) w.list x.input.left y.input.left w.reads
-          (plain_items decoder w.session w.list w.given.as_far);
+      reads = ReadsRecords-items takes_plain (Some w.session) w.list x.input.left y.input.left
+          (plain_items decoder w.session w.list w.given.as_far) w.reads;
       no_fault = w.no_fault;
-    }
-
--- what the input is where a packet came that isn't plain
-pub record HasNotPlain (x y : Ends) : Type 0 where
-  pub input : List ℕ
-  pub session : SessionData
-  pub list : List Item
-  pub at : ℕ
-  pub packet : Packet
-  pub front : List ℕ
-  pub rest : List ℕ
-  pub told : IsTold x.input.left input
-  pub is_front : HasFront input session (list ++ items.Packet at packet ∷ []) front rest
-  pub plain : ArePlain (Some session) list
-  pub not_plain : ¬ IsPlain session packet
-  pub reads : ReadsRecords takes_plain x.input.left y.input.left
-  pub no_fault : y.input.faults ≡ x.input.faults
-  pub nothing_written : y.output ≡ x.output
-
-pub HasNotPlain-walked : (decoder : Option DecoderData) (x y : Ends) → WalksToItem (Receives decoder) x y (Ok takes.Halts) → HasNotPlain x y
-HasNotPlain-walked decoder x y w =
-    let meets = MeetsNotPlain-ends w.session w.list w.item w.given.as_far in
-    let front : List ℕ = w.reads.front ++ record_of w.session w.item in
-    let rest : List ℕ = told_or y.input.left [] in
-    record {
-      input = front ++ rest;
-      session = w.session;
-      list = w.list;
-      at = meets.not_plain.at;
-      packet = meets.not_plain.packet;
-      front = front;
-      rest = rest;
-      told = IsTold-after x.input.left y.input.left front rest w.reads.read (IsTold-told_or y.input.left []);
-      is_front = record {
-        file = subst (λ (i : Item). IsPacketFile w.session (w.list ++ i ∷ []) front) meets.not_plain.item_is w.reads.file;
-        split = refl;
-      };
-      plain = meets.plain;
-      not_plain = meets.not_plain.not_plain;
-      reads = reads_not_plain w.session w.list w.item x.input.left y.input.left w.reads meets.plain meets.not_plain;
-      no_fault = w.no_fault;
-      nothing_written = w.given.nothing_written;
     }

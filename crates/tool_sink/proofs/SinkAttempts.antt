@@ -1,11 +1,13 @@
 -- `sink`, from its parts.
+use Rattle.std.proofs.Common.{ℕ, ◌≡◌, ◌≤◌, ◌-◌, ◌^◌, min, ◌⊎◌, Bool, List, [], ◌∷◌, ◌++◌, length, Option, Some, Result, Ok, Err, refl, sym, ap, ◌∙◌, subst, inl, inr, arith}
 use Rattle.std.specs.Prelude.{string_bytes}
-use Rattle.std.proofs.Common.{ℕ, ◌≡◌, ◌≤◌, ◌-◌, ◌^◌, min, ◌⊎◌, Bool, List, [], ◌∷◌, length, Option, Some, Result, Ok, Err, refl, sym, ap, ◌∙◌, subst, inl, inr, arith}
+use Rattle.std.specs.Result.{IsErrAnd}
+use Rattle.std.proofs.lemmas.Result.{err_from_is_err_and}
 use Rattle.bats_io.specs.Streams.{InputState, OutputState, IsTold}
 use Rattle.bats_io.specs.Sink.{appended}
 use Rattle.bats_io.proofs.Appended.{appended-nil}
 use Rattle.bats_io.proofs.ReadLemmas.{told_or, IsTold-told_or}
-use Rattle.bats_model.specs.PacketFile.{packets_of, most_records}
+use Rattle.bats_model.specs.PacketFile.{IsPacketFile, packets_of, record_of, most_records}
 use Rattle.bats_model.specs.Kept.{kept_count}
 use Rattle.bats_model.specs.RightAnswer.{IsRightAnswer}
 use Rattle.bats_model.specs.declared.item.Item.{Item}
@@ -14,28 +16,26 @@ use Rattle.bats_model.specs.declared.answer.Answer.{Answer}
 use Rattle.bats_model.specs.declared.answer.Answer.TheVariants.{File, Inconsistent, NeedMore}
 use Rattle.bats_model.specs.declared.packet.Packet.{Packet}
 use Rattle.bats_model.specs.declared.read_end.ReadEnd.{ReadEnd}
-use Rattle.bats_decode.specs.Decoder.{DecoderData}
+use Rattle.bats_decode.specs.Decoder.{DecoderData, StandsFor}
 use Rattle.tool_run.specs.declared.finish.Finish.{Finish}
 use Rattle.tool_run.specs.declared.status.Status.{Status}
 use Rattle.tool_run.specs.declared.stop.Stop.{Stop}
 use Rattle.tool_run.specs.declared.stop.Stop.TheVariants as stops
-use Rattle.tool_run.specs.Ending.{Ending, HasRead}
-use Rattle.bats_model.specs.declared.read_end.ReadEnd.TheVariants as ends
-use Rattle.tool_records.specs.Reading.{refused_ending, refusal_status}
-use Rattle.tool_sink.specs.Sink.{answer_ending, answer_status, answer_line, IsSinkEnding, not_built_ending, takes_plain, sink_promise}
-use Rattle.tool_records.specs.ReadsRecords.{ReadsRecords}
-use Rattle.tool_run.specs.Run.{WritesPart}
 use Rattle.tool_run.specs.Attempt.{Attempts, AttemptsAs, IsOfEnding}
-use Rattle.tool_sink.specs.steps.Answering.{AnswersAs, NotBuiltAs}
-use Rattle.tool_sink.specs.steps.Receiving.{Receives}
-use Rattle.tool_records.specs.Refused.{EndsAs}
-use Rattle.tool_records.specs.declared.walking.Taken.TheVariants as takes
-use Rattle.tool_records.specs.Walk.{WalksToEnd, WalksToRefusal, WalksToItem, WalksToStop, WalksAs, Walks}
-use Rattle.tool_records.specs.declared.walking.WalkEnd.{WalkEnd}
+use Rattle.tool_run.specs.Ending.{Ending, HasRead}
+use Rattle.tool_run.specs.Run.{WritesPart}
 use Rattle.tool_run.specs.Streams.{Ends}
-use Rattle.bats_decode.specs.Decoder.{StandsFor}
-use Rattle.tool_sink.proofs.Received.{HasReceivedAll, HasReceivedAll-walked, HasNotPlain-walked, nothing_written, plain_so_far, reads_on, reads_items, reads_plain}
 use Rattle.tool_run.proofs.Begun.{IsBegun-front}
+use Rattle.tool_records.specs.declared.walking.Taken.TheVariants as takes
+use Rattle.tool_records.specs.declared.walking.WalkEnd.{WalkEnd}
+use Rattle.tool_records.specs.Reading.{refused_ending}
+use Rattle.tool_records.specs.ReadsRecords.{ReadsRecords}
+use Rattle.tool_records.specs.Walk.{WalksToEnd, WalksToRefusal, WalksToItem, WalksToStop, WalksAs, Walks}
+use Rattle.tool_records.proofs.WalksRead.{told_last, ReadsRecords-items, ReadsRecords-item, ReadsRecords-last}
+use Rattle.tool_sink.specs.Sink.{answer_ending, answer_status, answer_line, IsSinkEnding, not_built_ending, takes_plain, sink_promise}
+use Rattle.tool_sink.specs.steps.Answering.{AnswersAs}
+use Rattle.tool_sink.specs.steps.Receiving.{Receives}
+use Rattle.tool_sink.proofs.Received.{HasReceivedAll, HasReceivedAll-walked, MeetsNotPlain-ends, stops_at, nothing_written, plain_so_far, reads_on}
 
 -- nothing was written
 nothing : (both : Bool) (input : List ℕ) (x y : OutputState) → y.written ≡ x.written → WritesPart (sink_promise both) input x y
@@ -136,16 +136,22 @@ Attempts-answered both decoder d x y p r e w answers =
 
 -- ---- an ending that nothing is written for
 
--- how a run ends by this ending, before anything is said on the notes
-abbrev EndsBy : Ending → Result Finish Stop → Type 0
-EndsBy ending (Ok finish) = (finish.status ≡ ending.status) × (string_bytes finish.line ≡ ending.line) × IsOfEnding finish.status
-EndsBy ending (Err stop) = stop ≡ stops.Memory
+-- a finish has this ending's status and line, or it could not be made
+abbrev pub FinishesBy : Ending → Result Finish Stop → Type 0
+FinishesBy ending (Ok finish) = (finish.status ≡ ending.status) × (string_bytes finish.line ≡ ending.line)
+FinishesBy ending (Err stop) = stop ≡ stops.Memory
+
+-- what a `?` returns that passes on that it could not be made
+pub FinishesBy-exit : (ending : Ending) (r : Result Finish Stop) → IsErrAnd r (λ y. y ≡ stops.Memory) → FinishesBy ending r
+FinishesBy-exit ending r is =
+    let w = err_from_is_err_and r is in subst (λ (z : Result Finish Stop). FinishesBy ending z) (sym w.1) w.2
 
 -- what was read makes the ending a right one, and nothing was written
 record HasEnding (both : Bool) (x y : Ends) (ending : Ending) : Type 0 where
   input : List ℕ
   told : IsTold x.input.left input
   is_ending : IsSinkEnding both input ending
+  of_ending : IsOfEnding ending.status
   output : ending.output ≡ []
   read : HasRead ending.reach x.input.left y.input.left
   reads : ReadsRecords takes_plain x.input.left y.input.left
@@ -169,7 +175,7 @@ stops_so : (both : Bool) (x y : Ends) (stop other : Stop) → stop ≡ other →
     → Attempts (sink_promise both) x y (Err stop)
 stops_so both x y stop other e a = subst (λ (s : Stop). Attempts (sink_promise both) x y (Err s)) (sym e) a
 
-ends_by : (both : Bool) (x y : Ends) (ending : Ending) (r : Result Finish Stop) → HasEnding both x y ending → EndsBy ending r
+ends_by : (both : Bool) (x y : Ends) (ending : Ending) (r : Result Finish Stop) → HasEnding both x y ending → FinishesBy ending r
     → Attempts (sink_promise both) x y r
 ends_by both x y ending (Ok finish) q e = record {
   input = q.input;
@@ -179,7 +185,7 @@ ends_by both x y ending (Ok finish) q e = record {
     ending = ending;
     is_ending = q.is_ending;
     status_is = e.0;
-    of_ending = e.2;
+    of_ending = subst IsOfEnding (sym e.0) q.of_ending;
     line_is = e.1;
     read = q.read;
     input_fault = q.no_fault;
@@ -191,67 +197,56 @@ ends_by both x y ending (Ok finish) q e = record {
 ends_by both x y ending (Err stop) q e =
     stops_so both x y stop stops.Memory e (lacks_memory both x y q.input q.told q.no_fault q.reads q.nothing_written)
 
--- a refusal that isn't a failed call stops a run for want of memory alone
-refused_for_memory : (end : ReadEnd) (stop : Stop) → IsOfEnding (refusal_status end) → EndsAs end (Err stop) → stop ≡ stops.Memory
-refused_for_memory ends.Memory stop of e = e
-refused_for_memory ends.ReadFault stop of e = absurd of
-refused_for_memory ends.NoHeader stop of e = e
-refused_for_memory (ends.BadHeader field) stop of e = e
-refused_for_memory (ends.BadTag at byte) stop of e = e
-refused_for_memory (ends.OtherSession at) stop of e = e
-refused_for_memory (ends.Truncated at) stop of e = e
-refused_for_memory ends.TooManyRecords stop of e = e
-
-refused_by : (end : ReadEnd) (r : Result Finish Stop) → IsOfEnding (refusal_status end) → EndsAs end r → EndsBy (refused_ending [] end) r
-refused_by end (Ok finish) of e = (e.status, e.line, e.of_ending)
-refused_by end (Err stop) of e = refused_for_memory end stop of e
-
 -- the input is refused, after plain packets alone
 pub Attempts-refused : (both : Bool) (decoder : Option DecoderData) (x y : Ends) (end : ReadEnd) (r : Result Finish Stop)
-    → WalksToRefusal (Receives decoder) x y end → EndsAs end r → Attempts (sink_promise both) x y r
+    → WalksToRefusal (Receives decoder) x y end → FinishesBy (refused_ending [] end) r → Attempts (sink_promise both) x y r
 Attempts-refused both decoder x y end r w e =
     let plain = plain_so_far decoder w.session w.list x.output y.output w.given in
     ends_by both x y (refused_ending [] end) r (record {
       input = w.input;
       told = w.told;
       is_ending = inr (inl (record { session = w.session; list = w.list; end = end; reading = w.reading; plain = plain; ending_is = refl }));
+      of_ending = w.of_input;
       output = refl;
       read = tt;
-      reads = reads_items w.session w.list x.input.left y.input.left w.reads (reads_on w.session w.list plain);
+      reads = ReadsRecords-items takes_plain w.session w.list x.input.left y.input.left (reads_on w.session w.list plain) w.reads;
       no_fault = w.no_fault;
       nothing_written = nothing_written decoder w.session w.list x.output y.output w.given;
-    }) (refused_by end r w.of_input e)
-
-not_built_by : (r : Result Finish Stop) → NotBuiltAs r → EndsBy not_built_ending r
-not_built_by (Ok finish) e = (e.status, e.line, subst (λ (s : Status). IsOfEnding s) (sym e.status) tt)
-not_built_by (Err stop) e = e
+    }) e
 
 -- the first packet came that isn't plain
 pub Attempts-not_built : (both : Bool) (decoder : Option DecoderData) (x y : Ends) (r : Result Finish Stop)
-    → WalksToItem (Receives decoder) x y (Ok takes.Halts) → NotBuiltAs r → Attempts (sink_promise both) x y r
+    → WalksToItem (Receives decoder) x y (Ok takes.Halts) → FinishesBy not_built_ending r → Attempts (sink_promise both) x y r
 Attempts-not_built both decoder x y r w e =
-    let q = HasNotPlain-walked decoder x y w in
+    let meets = MeetsNotPlain-ends w.session w.list w.item w.given.as_far in
+    let front : List ℕ = w.reads.front ++ record_of w.session w.item in
+    let told = told_last w.reads in
     ends_by both x y not_built_ending r (record {
-      input = q.input;
-      told = q.told;
+      input = front ++ told.0;
+      told = told.1;
       is_ending = inr (inr (record {
-        session = q.session;
-        list = q.list;
-        at = q.at;
-        packet = q.packet;
-        front = q.front;
-        rest = q.rest;
-        is_front = q.is_front;
-        plain = q.plain;
-        not_plain = q.not_plain;
+        session = w.session;
+        list = w.list;
+        at = meets.not_plain.at;
+        packet = meets.not_plain.packet;
+        front = front;
+        rest = told.0;
+        is_front = record {
+          file = subst (λ (i : Item). IsPacketFile w.session (w.list ++ i ∷ []) front) meets.not_plain.item_is w.reads.file;
+          split = refl;
+        };
+        plain = meets.plain;
+        not_plain = meets.not_plain.not_plain;
         ending_is = refl;
       }));
+      of_ending = tt;
       output = refl;
       read = tt;
-      reads = q.reads;
-      no_fault = q.no_fault;
-      nothing_written = q.nothing_written;
-    }) (not_built_by r e)
+      reads = ReadsRecords-last takes_plain w.session w.list w.item x.input.left y.input.left meets.plain
+          (stops_at w.session w.list w.item meets.not_plain) w.reads;
+      no_fault = w.no_fault;
+      nothing_written = w.given.nothing_written;
+    }) e
 
 -- ---- a stop
 
@@ -261,7 +256,7 @@ stopped_at_item : (both : Bool) (decoder : Option DecoderData) (x y : Ends) (sto
 stopped_at_item both decoder x y stop w =
     stops_so both x y stop stops.Memory w.given.as_far.0
     (lacks_memory both x y (told_or x.input.left []) (IsTold-told_or x.input.left []) w.no_fault
-    (reads_plain w.session w.list w.item x.input.left y.input.left w.reads w.given.as_far.1) w.given.nothing_written)
+    (ReadsRecords-item takes_plain w.session w.list w.item x.input.left y.input.left w.given.as_far.1 w.reads) w.given.nothing_written)
 
 -- a read failed, or memory ran out for a record
 stopped_reading : (both : Bool) (decoder : Option DecoderData) (x y : Ends) (stop : Stop) → WalksToStop (Receives decoder) x y stop
@@ -269,7 +264,7 @@ stopped_reading : (both : Bool) (decoder : Option DecoderData) (x y : Ends) (sto
 stopped_reading both decoder x y stops.Memory w =
     let plain = plain_so_far decoder w.session w.list x.output y.output w.given in
     lacks_memory both x y (told_or x.input.left []) (IsTold-told_or x.input.left []) w.faults
-    (reads_items w.session w.list x.input.left y.input.left w.reads (reads_on w.session w.list plain))
+    (ReadsRecords-items takes_plain w.session w.list x.input.left y.input.left (reads_on w.session w.list plain) w.reads)
     (nothing_written decoder w.session w.list x.output y.output w.given)
 stopped_reading both decoder x y stops.ReadFault w =
     let plain = plain_so_far decoder w.session w.list x.output y.output w.given in
@@ -277,7 +272,7 @@ stopped_reading both decoder x y stops.ReadFault w =
     record {
       input = told_or x.input.left [];
       told = IsTold-told_or x.input.left [];
-      read = reads_items w.session w.list x.input.left y.input.left w.reads (reads_on w.session w.list plain);
+      read = ReadsRecords-items takes_plain w.session w.list x.input.left y.input.left (reads_on w.session w.list plain) w.reads;
       as_far = record {
         input_fault = w.faults;
         output = record {

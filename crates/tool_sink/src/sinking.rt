@@ -3,7 +3,7 @@ ghost use Rattle.std.specs.Prelude.{◌≡◌, List, string_bytes, IfOk};
 ghost use Rattle.bats_model.specs.declared.packet.Packet.{Packet};
 ghost use Rattle.bats_decode.specs.Decoder.{StandsFor};
 ghost use Rattle.tool_run.specs.Attempt.{Attempts};
-ghost use Rattle.tool_sink.specs.steps.Answering.{AnswersAs, NotBuiltAs};
+ghost use Rattle.tool_sink.specs.steps.Answering.{AnswersAs};
 ghost use Rattle.bats_words.specs.Options.{HasWorkers};
 ghost use Rattle.tool_sink.specs.Sink.{answer_line, answer_status, sink_promise};
 
@@ -53,13 +53,6 @@ fn answer<R: Threads + Sync, O: Sink, C: Ledger, L: Ledger>(
     Ok(finish)
 }
 
-// How the run ends whose input has a packet that can't be taken yet.
-fn not_built(alloc: Global) -> Result<Finish, Stop>
-    ensures { NotBuiltAs result }
-{
-    Ok(refuse(alloc, Status::NotBuilt, "bats: not built\n")?)
-}
-
 /// Does `sink`: receives the packets of the input, and writes the file that they give, or says why there is none. The
 /// number of workers is 1 to 64.
 pub fn sink<R: Threads + Sync, S: Source, O: Sink, C: Ledger, L: Ledger>(
@@ -85,8 +78,8 @@ pub fn sink<R: Threads + Sync, S: Source, O: Sink, C: Ledger, L: Ledger>(
             let decoder = receiver.into_decoder();
             answer(rt, alloc, workers, both, decoder, output, &mut counters)
         }
-        Ok(WalkEnd::Refused(end)) => refused(alloc, end),
-        Ok(WalkEnd::Halted) => not_built(alloc),
+        Ok(WalkEnd::Refused(end)) => Ok(refused(alloc, end)?),
+        Ok(WalkEnd::Halted) => Ok(refuse(alloc, Status::NotBuilt, "bats: not built\n")?),
         Err(stop) => Err(stop),
     }
 }

@@ -1,2 +1,2 @@
 pub mod ShowLines
-pub mod ShowSteps
+pub mod ShowWalks

@@ -1,4 +1,4 @@
--- How a sink ends that has received all packets, or stopped at one that can't be taken yet.
+-- What a sink does once all packets were received.
 use Rattle.std.specs.Prelude.{◌≡◌, ◌⊎◌, Bool, List, None, Some, Result, Ok, Err, string_bytes}
 use Rattle.bats_io.specs.Streams.{OutputState}
 use Rattle.bats_model.specs.RightAnswer.{IsRightAnswer}
@@ -9,8 +9,7 @@ use Rattle.bats_decode.specs.Decoder.{DecoderData}
 use Rattle.tool_run.specs.declared.finish.Finish.{Finish}
 use Rattle.tool_run.specs.declared.stop.Stop.{Stop}
 use Rattle.tool_run.specs.declared.stop.Stop.TheVariants as stops
-use Rattle.tool_run.specs.declared.status.Status.TheVariants as statuses
-use Rattle.tool_sink.specs.Sink.{answer_line, answer_output, answer_status, not_built_line}
+use Rattle.tool_sink.specs.Sink.{answer_line, answer_output, answer_status}
 use Rattle.tool_run.specs.Writes.{Writes}
 
 -- a right answer was written
@@ -32,12 +31,3 @@ AnswersAs both decoder packets before after (Ok finish) = AnswersRight both deco
 AnswersAs both decoder packets before after (Err stops.Memory) =
     (after ≡ before) ⊎ CannotAnswer both decoder packets before after stops.Memory
 AnswersAs both decoder packets before after (Err stop) = CannotAnswer both decoder packets before after stop
-
--- a packet came that can't be taken yet
-pub record IsNotBuilt (finish : Finish) : Type 0 where
-  pub status : finish.status ≡ statuses.NotBuilt
-  pub line : string_bytes finish.line ≡ not_built_line
-
-abbrev pub NotBuiltAs : Result Finish Stop → Type 0
-NotBuiltAs (Ok finish) = IsNotBuilt finish
-NotBuiltAs (Err stop) = stop ≡ stops.Memory

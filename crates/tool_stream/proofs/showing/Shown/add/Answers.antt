@@ -1,7 +1,7 @@
 use Rattle.std.proofs.Common.{◌≡◌, ◌∷◌, [], length, ap, arith}
 use Rattle.bats_model.specs.PacketFile.{packets_of}
 use Rattle.bats_model.specs.declared.item.Item.{Item}
-use Rattle.tool_stream.proofs.showing.Counts.add.Goals as goal
+use Rattle.tool_stream.proofs.showing.Shown.add.Goals as goal
 
 pub returns-in-Header-clause-packets : goal.returns-in-Header-clause-packets
 unfolding packets_of
