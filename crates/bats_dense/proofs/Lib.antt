@@ -1,5 +1,5 @@
-pub mod ClearLemmas
-pub mod EliminationLemmas
-pub mod ReductionLemmas
-pub mod UnusedLemmas
+mod ClearLemmas
+mod EliminationLemmas
+mod ReductionLemmas
 pub mod ResultLemmas
+mod UnusedLemmas

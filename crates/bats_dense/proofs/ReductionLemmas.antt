@@ -132,11 +132,13 @@ used_apart used place k unused is e =
 pub IsReducedBelow-none : (m : Grid) (eqs others : List ℕ) → IsReducedBelow 0 m eqs others (replicate (length eqs) false) [] [] []
 IsReducedBelow-none m eqs others = record {
   columns = AreSplit-none;
-  sizes = refl;
-  ones = λ i h. absurd (omega arith);
-  zeros = λ i j h k apart. absurd (omega arith);
-  left = λ i j h k. absurd (omega arith);
-  pivots = All-nil (IsUsedRow eqs (replicate (length eqs) false));
+  pivots = record {
+    sizes = refl;
+    ones = λ i h. absurd (omega arith);
+    zeros = λ i j h k apart. absurd (omega arith);
+    left = λ i j h k. absurd (omega arith);
+  };
+  from_used = All-nil (IsUsedRow eqs (replicate (length eqs) false));
   rest = λ k h unused j w. absurd (omega arith);
   each = λ k h used.
       let bad : true ≡ false = sym used ∙ get_or-replicate (length eqs) k false false h in
@@ -151,11 +153,8 @@ IsReducedBelow-split : (c : ℕ) (m : Grid) (eqs others : List ℕ) (used : List
     → IsReducedBelow (c + 1) m eqs others used rows columns (free ++ c ∷ [])
 IsReducedBelow-split c m eqs others used rows columns free state none = record {
   columns = AreSplit-free c columns free state.columns;
-  sizes = state.sizes;
-  ones = state.ones;
-  zeros = state.zeros;
-  left = state.left;
   pivots = state.pivots;
+  from_used = state.from_used;
   rest = λ k h unused j w. elim (cases_lt j c) [
     | inl before ↦ state.rest k h unused j before
     | inr past ↦ let e : j ≡ c = omega arith in ap (λ (i : ℕ). matrix_entry m (get_or eqs k 0) i) e ∙ none k h unused
@@ -194,18 +193,18 @@ module _ (c place : ℕ) (m n : Grid) (before after : List Op) (eqs others : Lis
   -- a row that had a pivot is 0 in the column
   cleared_pivot : (i : ℕ) → i < length columns → matrix_entry n (get_or rows i 0) c ≡ 0
   cleared_pivot i h =
-      let is : IsUsedRow eqs used (get_or rows i 0) = state.pivots i 0 (omega (arith, state.sizes)) in
+      let is : IsUsedRow eqs used (get_or rows i 0) = state.from_used i 0 (omega (arith, state.pivots.sizes)) in
       subst (λ (r : ℕ). matrix_entry n r c ≡ 0) is.is (did.eqs_zero is.place is.within (used_apart used place is.place unused is.used_there))
 
   ones_after : (i : ℕ) → i < length (columns ++ c ∷ []) → matrix_entry n (get_or (rows ++ pivot ∷ []) i 0) (get_or (columns ++ c ∷ []) i 0) ≡ 1
   ones_after =
-      pushed rows columns pivot c state.sizes (λ r j. matrix_entry n r j ≡ 1)
-      (λ i h. unchanged (get_or rows i 0) (get_or columns i 0) (below i h) ∙ state.ones i h) did.one
+      pushed rows columns pivot c state.pivots.sizes (λ r j. matrix_entry n r j ≡ 1)
+      (λ i h. unchanged (get_or rows i 0) (get_or columns i 0) (below i h) ∙ state.pivots.ones i h) did.one
 
   left_after : (i : ℕ) → i < length (columns ++ c ∷ []) → (j : ℕ) → j < get_or (columns ++ c ∷ []) i 0 → matrix_entry n (get_or (rows ++ pivot ∷ []) i 0) j ≡ 0
   left_after =
-      pushed rows columns pivot c state.sizes (λ r column. (j : ℕ) → j < column → matrix_entry n r j ≡ 0)
-      (λ i h j w. let here : get_or columns i 0 < c = below i h in unchanged (get_or rows i 0) j (omega arith) ∙ state.left i j h w)
+      pushed rows columns pivot c state.pivots.sizes (λ r column. (j : ℕ) → j < column → matrix_entry n r j ≡ 0)
+      (λ i h j w. let here : get_or columns i 0 < c = below i h in unchanged (get_or rows i 0) j (omega arith) ∙ state.pivots.left i j h w)
       (λ j w. unchanged pivot j w ∙ state.rest place within unused j w)
 
   zeros_after : (i j : ℕ) → i < length (columns ++ c ∷ []) → j < length (columns ++ c ∷ []) → i ≢ j
@@ -214,15 +213,15 @@ module _ (c place : ℕ) (m n : Grid) (before after : List Op) (eqs others : Lis
       elim (place_in_push columns c i h) [
         | inl row_early ↦ elim (place_in_push columns c j k) [
           | inl early ↦
-              entry (get_or rows i 0) (get_or columns j 0) (earlier_row rows columns pivot c state.sizes i row_early) (earlier_column rows columns pivot c state.sizes j early)
-              (unchanged (get_or rows i 0) (get_or columns j 0) (below j early) ∙ state.zeros i j row_early early apart)
+              entry (get_or rows i 0) (get_or columns j 0) (earlier_row rows columns pivot c state.pivots.sizes i row_early) (earlier_column rows columns pivot c state.pivots.sizes j early)
+              (unchanged (get_or rows i 0) (get_or columns j 0) (below j early) ∙ state.pivots.zeros i j row_early early apart)
           | inr e ↦
-              entry (get_or rows i 0) c (earlier_row rows columns pivot c state.sizes i row_early) (last_column rows columns pivot c state.sizes j e)
+              entry (get_or rows i 0) c (earlier_row rows columns pivot c state.pivots.sizes i row_early) (last_column rows columns pivot c state.pivots.sizes j e)
               (cleared_pivot i row_early)
         ]
         | inr row_last ↦ elim (place_in_push columns c j k) [
           | inl early ↦
-              entry pivot (get_or columns j 0) (last_row rows columns pivot c state.sizes i row_last) (earlier_column rows columns pivot c state.sizes j early)
+              entry pivot (get_or columns j 0) (last_row rows columns pivot c state.pivots.sizes i row_last) (earlier_column rows columns pivot c state.pivots.sizes j early)
               (unchanged pivot (get_or columns j 0) (below j early) ∙ state.rest place within unused (get_or columns j 0) (below j early))
           | inr e ↦ absurd (apart (row_last ∙ sym e))
         ]
@@ -245,12 +244,14 @@ module _ (c place : ℕ) (m n : Grid) (before after : List Op) (eqs others : Lis
   IsReducedBelow-more : IsReducedBelow (c + 1) n eqs others (set used place true) (rows ++ pivot ∷ []) (columns ++ c ∷ []) free
   IsReducedBelow-more = record {
     columns = AreSplit-pivot c columns free state.columns;
-    sizes = length-append rows (pivot ∷ []) ∙ (ap (λ (k : ℕ). k + 1) state.sizes ∙ sym (length-append columns (c ∷ [])));
-    ones = ones_after;
-    zeros = zeros_after;
-    left = λ i j h w. left_after i h j w;
-    pivots = All-push (IsUsedRow eqs (set used place true)) rows pivot
-        (All-weaker (IsUsedRow eqs used) (IsUsedRow eqs (set used place true)) used_row_more rows state.pivots)
+    pivots = record {
+      sizes = length-append rows (pivot ∷ []) ∙ (ap (λ (k : ℕ). k + 1) state.pivots.sizes ∙ sym (length-append columns (c ∷ [])));
+      ones = ones_after;
+      zeros = zeros_after;
+      left = λ i j h w. left_after i h j w;
+    };
+    from_used = All-push (IsUsedRow eqs (set used place true)) rows pivot
+        (All-weaker (IsUsedRow eqs used) (IsUsedRow eqs (set used place true)) used_row_more rows state.from_used)
         (record { place = place; within = within; used_there = get_or-set_same used place true false place_of_used; is = refl });
     rest = λ k h unused_after j w.
         let apart : k ≢ place = unused_apart used place k place_of_used unused_after in
@@ -290,14 +291,14 @@ module _ (eqs others : List ℕ) (used : List Bool) (dense : Dense)
     (rest : AreUnused (length eqs) eqs used dense.zero_rows) where
   pivots_are_eqs : All (Contains eqs) dense.pivot_rows
   pivots_are_eqs =
-      All-weaker (IsUsedRow eqs used) (Contains eqs) (λ r is. subst (Contains eqs) is.is (Contains-get_or eqs is.place 0 is.within)) dense.pivot_rows state.pivots
+      All-weaker (IsUsedRow eqs used) (Contains eqs) (λ r is. subst (Contains eqs) is.is (Contains-get_or eqs is.place 0 is.within)) dense.pivot_rows state.from_used
 
   pivots_are_nonzero : All (λ r. ¬ IsZeroRow dense.matrix r) dense.pivot_rows
   pivots_are_nonzero =
       All-from_get_or (λ r. ¬ IsZeroRow dense.matrix r) dense.pivot_rows 0
       (λ i h is_zero.
-      let at : i < length dense.pivot_columns = omega (arith, state.sizes) in
-      let one : 1 ≡ 0 = sym (state.ones i at) ∙ is_zero (get_or dense.pivot_columns i 0) (state.columns.pivots_within i 0 at) in
+      let at : i < length dense.pivot_columns = omega (arith, state.pivots.sizes) in
+      let one : 1 ≡ 0 = sym (state.pivots.ones i at) ∙ is_zero (get_or dense.pivot_columns i 0) (state.columns.pivots_within i 0 at) in
       absurd (omega (arith, one)))
 
   unused_is_eq : (r : ℕ) → IsUnusedRow (length eqs) eqs used r → Contains eqs r
@@ -327,17 +328,16 @@ module _ (eqs others : List ℕ) (used : List Bool) (dense : Dense)
   IsReduced-all : IsReduced eqs others dense
   IsReduced-all = record {
     columns = state.columns;
-    sizes = state.sizes;
-    ones = state.ones;
-    zeros = state.zeros;
-    left = state.left;
-    pivots = pivots_are_eqs;
-    zero_rows = λ r. (
-      (λ has. (unused_is_eq r (unused_of r has), unused_is_zero r (unused_of r has))),
-      (λ both. zero_is_told r both.0 both.1),
-    );
-    once = rest.once;
-    each = λ r has. All-contains (λ k. Contains dense.pivot_rows k ⊎ Contains dense.zero_rows k) eqs r each_eq has;
+    pivots = state.pivots;
+    zero_rows = record {
+      are = λ r. (
+        (λ has. (unused_is_eq r (unused_of r has), unused_is_zero r (unused_of r has))),
+        (λ both. zero_is_told r both.0 both.1),
+      );
+      once = rest.once;
+    };
+    from_eqs = pivots_are_eqs;
+    each = each_eq;
     apart = λ k d h has. pivots_are_nonzero k d h (unused_is_zero (get_or dense.pivot_rows k d) (unused_of (get_or dense.pivot_rows k d) has));
     cleared = state.cleared;
   }

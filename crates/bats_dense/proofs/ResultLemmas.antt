@@ -1,14 +1,14 @@
 -- The result, by what was read on the way: each list that was lent is the one that was handed in.
-use Rattle.std.proofs.Common.{ℕ, ◌≡◌, Bool, List, ◌++◌, length, sym, subst}
+use Rattle.std.proofs.Common.{ℕ, ◌≡◌, ◌≢◌, ◌<◌, ◌+◌, Bool, List, ◌++◌, length, get_or, sym, subst, arith}
 use Rattle.std.specs.Prelude.{All}
 use Rattle.std.proofs.lemmas.List.Elements.{All-append}
 use Rattle.gf_rows.specs.declared.operation.Op.{Op}
-use Rattle.gf_rows.specs.Matrix.{Grid, IsMatrix}
+use Rattle.gf_rows.specs.Matrix.{Grid, IsMatrix, matrix_entry}
 use Rattle.gf_rows.specs.Operation.{FitsRows}
 use Rattle.gf_rows.specs.Performed.{Performed}
 use Rattle.gf_rows.proofs.SolutionLemmas.{Solves-performed, row_result-performed, length-performed}
 use Rattle.bats_dense.specs.declared.dense.Dense.{Dense}
-use Rattle.bats_dense.specs.Reduced.{IsReduced}
+use Rattle.bats_dense.specs.Reduced.{ArePivots, IsReduced}
 use Rattle.bats_dense.specs.Kept.{KeepsOutside, KeepsSolutions}
 use Rattle.bats_dense.specs.steps.Below.{IsReducedBelow, AreUnused}
 use Rattle.bats_dense.proofs.ReductionLemmas.{IsReduced-done}
@@ -46,3 +46,8 @@ fits-performed sources m n before after did fits =
     subst (λ (ops : List Op). All (FitsRows (length n.rows)) ops) (sym did.plan)
     (subst (λ (count : ℕ). All (FitsRows count) (before ++ did.ops)) (sym (length-performed did))
     (All-append (FitsRows (length m.rows)) before did.ops fits did.fits))
+
+-- a row whose pivot is the last column is 0 elsewhere
+pub ArePivots-last : (m : Grid) (rows columns : List ℕ) (i j : ℕ) → ArePivots m rows columns → i < length columns → get_or columns i 0 + 1 ≡ m.cols → j < m.cols → j ≢ get_or columns i 0
+    → matrix_entry m (get_or rows i 0) j ≡ 0
+ArePivots-last m rows columns i j pivots h last within apart = pivots.left i j h (omega arith)

@@ -23,20 +23,30 @@ pub record AreSplit (c : ℕ) (pivot_columns free : List ℕ) : Type 0 where
   pub each : (j : ℕ) → j < c → Contains pivot_columns j ⊎ Contains free j
   pub apart : All (λ j. ¬ Contains free j) pivot_columns
 
--- The reduced form. A pivot row is 1 at its own pivot column, and 0 at every other pivot column and left of its own.
--- Each equation is a pivot row or a zero row, and never both. The other rows are 0 at every pivot column.
+-- there is a pivot row for each pivot column: it is 1 there, and 0 at every other pivot column and left of its own
+pub record ArePivots (m : Grid) (pivot_rows pivot_columns : List ℕ) : Type 0 where
+  pub sizes : length pivot_rows ≡ length pivot_columns
+  pub ones : (i : ℕ) → i < length pivot_columns → matrix_entry m (slice_index pivot_rows i) (slice_index pivot_columns i) ≡ 1
+  pub zeros : (i j : ℕ) → i < length pivot_columns → j < length pivot_columns → i ≢ j
+      → matrix_entry m (slice_index pivot_rows i) (slice_index pivot_columns j) ≡ 0
+  pub left : (i j : ℕ) → i < length pivot_columns → j < slice_index pivot_columns i → matrix_entry m (slice_index pivot_rows i) j ≡ 0
+
+-- the zero rows are the equations that are 0 in every column, each told once
+pub record AreZeroRows (m : Grid) (eqs zero_rows : List ℕ) : Type 0 where
+  pub are : (r : ℕ) → Contains zero_rows r ↔ (Contains eqs r × IsZeroRow m r)
+  pub once : AllPairs (λ a b. a ≢ b) zero_rows
+
+-- each of the rows is 0 at every pivot column
+abbrev pub AreCleared : Grid → List ℕ → List ℕ → Type 0
+AreCleared m rows pivot_columns = All (λ r. All (λ j. matrix_entry m r j ≡ 0) pivot_columns) rows
+
+-- The reduced form: each equation is a pivot row or a zero row, and never both, and the others are 0 at every pivot
+-- column.
 pub record IsReduced (eqs others : List ℕ) (dense : Dense) : Type 0 where
   pub columns : AreSplit dense.matrix.cols dense.pivot_columns dense.free
-  pub sizes : length dense.pivot_rows ≡ length dense.pivot_columns
-  pub ones : (i : ℕ) → i < length dense.pivot_columns
-      → matrix_entry dense.matrix (slice_index dense.pivot_rows i) (slice_index dense.pivot_columns i) ≡ 1
-  pub zeros : (i j : ℕ) → i < length dense.pivot_columns → j < length dense.pivot_columns → i ≢ j
-      → matrix_entry dense.matrix (slice_index dense.pivot_rows i) (slice_index dense.pivot_columns j) ≡ 0
-  pub left : (i j : ℕ) → i < length dense.pivot_columns → j < slice_index dense.pivot_columns i
-      → matrix_entry dense.matrix (slice_index dense.pivot_rows i) j ≡ 0
-  pub pivots : All (Contains eqs) dense.pivot_rows
-  pub zero_rows : (r : ℕ) → Contains dense.zero_rows r ↔ (Contains eqs r × IsZeroRow dense.matrix r)
-  pub once : AllPairs (λ a b. a ≢ b) dense.zero_rows
-  pub each : (r : ℕ) → Contains eqs r → Contains dense.pivot_rows r ⊎ Contains dense.zero_rows r
+  pub pivots : ArePivots dense.matrix dense.pivot_rows dense.pivot_columns
+  pub zero_rows : AreZeroRows dense.matrix eqs dense.zero_rows
+  pub from_eqs : All (Contains eqs) dense.pivot_rows
+  pub each : All (λ r. Contains dense.pivot_rows r ⊎ Contains dense.zero_rows r) eqs
   pub apart : All (λ r. ¬ Contains dense.zero_rows r) dense.pivot_rows
-  pub cleared : All (λ r. All (λ j. matrix_entry dense.matrix r j ≡ 0) dense.pivot_columns) others
+  pub cleared : AreCleared dense.matrix others dense.pivot_columns

@@ -12,8 +12,8 @@ use gf_rows::{Matrix, Plan, Steps};
 use std::alloc::{AllocError, Global};
 use std::sync::ledger::Ledger;
 
-/// Rows in reduced form. A pivot row is 1 at its own pivot column, and 0 at every other pivot column and left of its
-/// own, so that a row whose pivot is the last column is 0 elsewhere.
+/// A matrix whose equations, which are some of its rows, are in reduced form. A pivot row is 1 at its own pivot column,
+/// and 0 at every other pivot column and left of its own, so that a row whose pivot is the last column is 0 elsewhere.
 #[derive(Drop)]
 pub struct Dense {
     /// The matrix, with as many rows and columns as before.
@@ -45,10 +45,13 @@ fn unused_rows(alloc: Global, eqs: &[u32], used: &[bool]) -> Result<Nums, AllocE
     Ok(rows)
 }
 
-/// Brings the rows `eqs` of the matrix to reduced form, with pivots by rising column, and makes the rows `others` 0 at
-/// the pivot columns. The operations are appended to the plan, and each is one step. There are at most as many as
-/// `eqs` and `others` have rows together, for each column. What is handed in is dropped on an `Err`, which is want of
-/// memory.
+/// Brings the equations, the rows `eqs` of the matrix, to reduced form, with pivots by rising column, and makes the rows
+/// `others` 0 at the pivot columns. The equations are distinct rows and none of the others, and the plan fits the rows.
+/// Rows that are neither stay as they are.
+///
+/// Each operation on the matrix is appended to the plan, so that the solutions stay the same for every column of bytes
+/// on which the plan is run. Each is one step, and for each column of the matrix there are at most as many as there are
+/// equations and others together. An `Err` is want of memory, and drops what was handed in.
 pub fn reduce<C: Ledger>(
     alloc: Global,
     matrix: Matrix,

@@ -2,3 +2,4 @@ pub mod MixedPackets
 pub mod OutputRows
 pub mod OutputAgreement
 pub mod RelayedPackets
+mod Examples

@@ -1,6 +1,6 @@
 -- Kept packets are added one after another, up to an output.
-use Rattle.std.proofs.Common.{ℕ, ◌≡◌, ◌<◌, ◌≤◌, ◌+◌, ◌^◌, ◌∙◌, List, [], ◌∷◌, ◌++◌, length, get_or, take, map, replicate, sym, ap, subst, refl, arith}
-use Rattle.std.specs.Prelude.{All, slice_get, Option, Some}
+use Rattle.std.proofs.Common.{ℕ, ◌≡◌, ◌<◌, ◌+◌, ◌∙◌, List, [], ◌∷◌, ◌++◌, length, get_or, take, map, replicate, sym, ap, subst, arith}
+use Rattle.std.specs.Prelude.{slice_get, Some}
 use Rattle.std.proofs.lemmas.List.{map-append, length-map, length-take-le, take_more}
 use Rattle.std.proofs.lemmas.List.Elements.{All-nil, All-push}
 use Rattle.std.proofs.lemmas.Option.{slice_get_within, get_or_from_slice_get}
@@ -9,15 +9,13 @@ use Rattle.gf_core.specs.Rows.{add_scaled_row}
 use Rattle.gf_core.specs.Combinations.{combination}
 use Rattle.gf_core.specs.Triangular.{AreRows}
 use Rattle.gf_core.proofs.CombinationLemmas.{length-combination, combination-push}
-use Rattle.gf_core.proofs.RowLemmas.{length-add_scaled_row}
 use Rattle.bats_model.specs.Session.{SessionData}
 use Rattle.bats_model.specs.Kept.{coefs_of}
-use Rattle.bats_model.specs.PacketFile.{HasShape}
 use Rattle.bats_model.specs.Relay.{mix_factors, payloads_of, relay_output}
 use Rattle.bats_model.specs.declared.packet.Packet.{Packet}
 use Rattle.bats_batch.specs.Basis.{IsSized}
 use Rattle.bats_relay.specs.steps.Mixing.{IsMixed}
-use Rattle.bats_relay.proofs.OutputRows.{AreRows-coefs, AreRows-payloads, HasShape-mixed}
+use Rattle.bats_relay.proofs.OutputRows.{AreRows-coefs, AreRows-payloads}
 
 -- rows of zeros
 pub IsMixed-none : (m t : ℕ) (kept : List Packet) (factors coefs payload : List ℕ) → coefs ≡ replicate m 0 → payload ≡ replicate t 0
@@ -107,8 +105,3 @@ module _ (session : SessionData) (m t : ℕ) (kept : List Packet) (factors : Lis
   pub output-mixed : packet ≡ relay_output session seed batch number kept
   unfolding relay_output
   output-mixed = λ i. record { batch = own i; coefs = whole_coefs i; payload = whole_payload i }
-
-  pub HasShape-all_mixed : batch < 2 ^ 32 → HasShape session packet
-  HasShape-all_mixed range =
-      HasShape-mixed session batch (mix_factors seed batch number (length kept)) kept packet range
-      (rw (← same_m, ← same_t, ← all_kept) is.sized) own whole_coefs whole_payload

@@ -9,12 +9,12 @@ use Rattle.std.proofs.lemmas.List.FromFn.{map-range_with_len_more}
 use Rattle.gf_core.specs.Combinations.{combination}
 use Rattle.bats_model.specs.Session.{SessionData}
 use Rattle.bats_model.specs.Agreement.{Agrees, AgreesWithAll}
-use Rattle.bats_model.specs.Kept.{coefs_of, kept_of, new_after, packet_row, Follows}
+use Rattle.bats_model.specs.Kept.{kept_of, new_after, packet_row, Follows}
 use Rattle.bats_model.specs.PacketFile.{HasShape}
-use Rattle.bats_model.specs.Relay.{mix_factors, payloads_of, relay_output, relay_outputs}
+use Rattle.bats_model.specs.Relay.{mix_factors, relay_output, relay_outputs}
 use Rattle.bats_model.specs.declared.packet.Packet.{Packet}
 use Rattle.bats_model.proofs.KeptSpans.{is_of, All-kept_of}
-use Rattle.bats_model.proofs.KeptAgreement.{AgreesAt, Agrees-follows, kept-agreement}
+use Rattle.bats_model.proofs.KeptAgreement.{Agrees-follows, kept-agreement}
 use Rattle.bats_batch.specs.Basis.{IsSized}
 use Rattle.bats_batch.specs.Held.{HeldData, StandsFor, kept_at}
 use Rattle.bats_relay.proofs.OutputRows.{IsSized-shape, combination-packets, length-mix_factors, mix_factors-lt, HasShape-output}

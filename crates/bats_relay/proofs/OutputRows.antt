@@ -1,5 +1,5 @@
 -- The rows of outputs: their widths and bytes, and that a row of both parts is the combination of the packets' rows.
-use Rattle.std.proofs.Common.{ℕ, zero, suc, ◌≡◌, ◌<◌, ◌+◌, ◌^◌, ◌∙◌, List, [], ◌∷◌, ◌++◌, length, get_or, map, replicate, sym, ap, refl, arith}
+use Rattle.std.proofs.Common.{ℕ, ◌≡◌, ◌<◌, ◌+◌, ◌^◌, ◌∙◌, List, [], ◌∷◌, ◌++◌, length, get_or, map, sym, ap, refl, arith}
 use Rattle.std.specs.Prelude.{All}
 use Rattle.std.specs.List.{range_with_len}
 use Rattle.std.proofs.lemmas.List.{map-append, length-map, replicate-append-replicate}
@@ -104,3 +104,8 @@ unfolding relay_output
 HasShape-output session seed batch number kept range shapes =
     HasShape-mixed session batch (mix_factors seed batch number (length kept)) kept (relay_output session seed batch number kept) range
     (All-weaker (HasShape session) (IsSized session.m session.t) (IsSized-shape session) kept shapes) refl refl refl
+
+pub batch-output : (session : SessionData) (seed : List ℕ) (batch number : ℕ) (kept : List Packet)
+    → (relay_output session seed batch number kept).batch ≡ batch
+unfolding relay_output
+batch-output session seed batch number kept = refl

@@ -1,5 +1,5 @@
 -- Packets that went over relays.
-use Rattle.std.proofs.Common.{ℕ, zero, suc, ◌≡◌, ◌<◌, ◌^◌, List, [], length, get_or, sym, subst, arith, inl, inr}
+use Rattle.std.proofs.Common.{ℕ, zero, suc, ◌≡◌, ◌<◌, ◌^◌, ◌∙◌, List, length, sym, ap, subst, inl, inr}
 use Rattle.std.specs.Prelude.{All}
 use Rattle.std.proofs.lemmas.List.Elements.{All-contains, All-weaker}
 use Rattle.bats_model.specs.Session.{SessionData}
@@ -9,7 +9,8 @@ use Rattle.bats_model.specs.PacketFile.{HasShape}
 use Rattle.bats_model.specs.Relay.{relay_output, IsOutputOf, IsRelayed}
 use Rattle.bats_model.specs.declared.packet.Packet.{Packet}
 use Rattle.bats_model.proofs.KeptSpans.{All-kept_of}
-use Rattle.bats_relay.proofs.OutputRows.{HasShape-output}
+use Rattle.bats_batch.specs.Held.{HeldData, StandsFor, kept_at}
+use Rattle.bats_relay.proofs.OutputRows.{HasShape-output, batch-output}
 use Rattle.bats_relay.proofs.OutputAgreement.{own-kept, Agrees-taken}
 
 -- ---- one relay
@@ -32,6 +33,22 @@ module _ (session : SessionData) (packets : List Packet) (shapes : All (HasShape
   pub Agrees-output_of : (file : List ℕ) → AgreesWithAll session packets file → Agrees session file packet
   Agrees-output_of file agrees =
       subst (Agrees session file) (sym is.is_output) (Agrees-taken session is.seed packet.batch is.number packets file range shapes agrees)
+
+-- an output of a batch that is held for the packets is an output of a relay that took them
+pub IsOutputOf-held : (packets : List Packet) (held : HeldData) (seed : List ℕ) (batch number : ℕ) (packet : Packet)
+    → StandsFor packets held → 0 < length (kept_at held.batches batch)
+    → packet ≡ relay_output held.session seed batch number (kept_at held.batches batch) → IsOutputOf held.session packets packet
+IsOutputOf-held packets held seed batch number packet stands some is =
+    let of_batch : packet.batch ≡ batch =
+    ap (λ (p : Packet). p.batch) is ∙ batch-output held.session seed batch number (kept_at held.batches batch) in
+    record {
+      seed = seed;
+      number = number;
+      held = subst (λ (b : ℕ). 0 < length (kept_of b packets)) (sym of_batch)
+          (subst (λ (kept : List Packet). 0 < length kept) (stands.kept batch) some);
+      is_output = is ∙ ap (relay_output held.session seed batch number) (stands.kept batch)
+          ∙ sym (ap (λ (b : ℕ). relay_output held.session seed b number (kept_of b packets)) of_batch);
+    }
 
 -- ---- two relays, one behind the other
 

@@ -1,5 +1,4 @@
 -- What a relay holds.
-use Rattle.std.specs.Prelude.{ℕ}
 use Rattle.bats_relay.specs.Mixer.{MixerData}
 use Rattle.bats_relay.specs.Rule.{RuleData}
 

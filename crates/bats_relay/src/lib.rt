@@ -12,3 +12,5 @@ pub use mixer::{MAX_OUTPUTS, Mixer};
 pub use relay::Relay;
 pub use rule::{Rule, extra_outputs, fixed_outputs};
 
+#[cfg(test)]
+mod tests;

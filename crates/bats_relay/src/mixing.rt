@@ -83,7 +83,13 @@ fn add_four_kept(coefs: &mut [u8], payload: &mut [u8], basis: &Basis, factors: &
     let c = term_at(basis, factors, first + 2);
     let d = term_at(basis, factors, first + 3);
     add_four(coefs, &a.coefs(), &b.coefs(), &c.coefs(), &d.coefs());
-    add_four(payload, &a.payload(), &b.payload(), &c.payload(), &d.payload());
+    add_four(
+        payload,
+        &a.payload(),
+        &b.payload(),
+        &c.payload(),
+        &d.payload(),
+    );
 }
 
 // Adds the kept packets to rows of zeros, in groups of four, as far as these go.

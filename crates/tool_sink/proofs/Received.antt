@@ -1,5 +1,5 @@
 -- What a walk has received whose taker is a sink's receiver.
-use Rattle.std.proofs.Common.{true, ℕ, ◌≡◌, List, [], ◌∷◌, ◌++◌, Option, None, Some, Result, Ok, Err, refl, sym, ◌∙◌, subst, append-nil}
+use Rattle.std.proofs.Common.{ℕ, ◌≡◌, List, [], ◌∷◌, ◌++◌, Option, None, Some, Result, Ok, Err, refl, sym, ◌∙◌, subst, append-nil}
 use Rattle.std.specs.Prelude.{IsSome}
 use Rattle.std.specs.List.{All}
 use Rattle.std.proofs.lemmas.List.Elements.{All-append, All-head, All-tail, All-nil, All-push}
@@ -18,7 +18,7 @@ use Rattle.tool_records.specs.declared.walking.Taken.{Taken}
 use Rattle.tool_records.specs.declared.walking.Taken.TheVariants as takes
 use Rattle.tool_records.specs.Walk.{GivenSoFar, WalksToEnd}
 use Rattle.tool_records.specs.ReadsRecords.{ReadsOn, ReadsRecords}
-use Rattle.tool_records.proofs.WalksRead.{same_last, ReadsRecords-items}
+use Rattle.tool_records.proofs.WalksRead.{any_session, same_last, ReadsRecords-items}
 use Rattle.tool_sink.specs.Sink.{ArePlain, takes_plain}
 use Rattle.tool_sink.specs.steps.Receiving.{HasShapeOf, Receives, ReceivesAs, StandsForItems, EndsNotPlain, IsNotPlain, TakesIn, TakesItem}
 
@@ -135,13 +135,9 @@ MeetsNotPlain-ends session list item h =
 
 -- ---- what was received so far
 
--- some session, since what a receiver has done before the first header is said of every session
-some_session : SessionData
-some_session = record { m = 1; t = 1; file_length = 0; table = 0; systematic = true; seed = [] }
-
 pub nothing_written : (decoder : Option DecoderData) (session : Option SessionData) (list : List Item) (o p : OutputState)
     → GivenSoFar (Receives decoder) session list o p → p ≡ o
-nothing_written decoder None list o p h = (h some_session).nothing_written
+nothing_written decoder None list o p h = (h any_session).nothing_written
 nothing_written decoder (Some session) list o p h = h.nothing_written
 
 pub plain_so_far : (decoder : Option DecoderData) (session : Option SessionData) (list : List Item) (o p : OutputState)

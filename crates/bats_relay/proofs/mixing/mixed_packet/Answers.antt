@@ -31,9 +31,9 @@ returns-clause-output c =
       c.from-3.ensures,
       c.from-4.ensures,
       take_at c.mix.new.coefs _ c.in_ok-coefs.coefs.len
-      (length-coefs c.mix.ensures ∙ c.requires.m ∙ sym c.m.ensures.value ∙ sym c.from.ensures ∙ sym c.in_ok-coefs.ensures.len),
+          (length-coefs c.mix.ensures ∙ c.requires.m ∙ sym c.m.ensures.value ∙ sym c.from.ensures ∙ sym c.in_ok-coefs.ensures.len),
       take_at c.mix.new.payload _ c.in_ok-payload.payload.len
-      (length-payload c.mix.ensures ∙ c.requires.t ∙ sym c.t.ensures.value ∙ sym c.from-2.ensures ∙ sym c.in_ok-payload.ensures.len),
+          (length-payload c.mix.ensures ∙ c.requires.t ∙ sym c.t.ensures.value ∙ sym c.from-2.ensures ∙ sym c.in_ok-payload.ensures.len),
     )
     c.mix.ensures)
     refl

@@ -1,7 +1,6 @@
-use Rattle.std.proofs.Common.{List, ◌∙◌, ap, arith}
+use Rattle.std.proofs.Common.{◌∙◌, ap, arith}
 use Rattle.bats_model.specs.Relay.{relay_output}
 use Rattle.bats_model.specs.Session.{SessionData}
-use Rattle.bats_model.specs.declared.packet.Packet.{Packet}
 use Rattle.bats_batch.specs.Basis.{BasisData}
 use Rattle.bats_relay.proofs.OutputAgreement.{Agrees-held}
 use Rattle.bats_relay.proofs.mixer.Mixer.next_of.Goals as goal
