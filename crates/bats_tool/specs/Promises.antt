@@ -9,6 +9,7 @@ use Rattle.bats_words.specs.Options.{source_options}
 use Rattle.tool_source.specs.Source.{source_promise}
 use Rattle.tool_sink.specs.Sink.{sink_promise}
 use Rattle.tool_stream.specs.Show.{show_promise}
+use Rattle.tool_stream.specs.Relay.{relay_promise}
 
 -- how words end that are no command
 abbrev pub usage_ending : Ending
@@ -19,6 +20,7 @@ abbrev pub promise_of : Option Command → Promise
 promise_of None = reads_nothing usage_ending
 promise_of (Some (commands.Source m t table systematic seed first batches)) =
     source_promise (source_options m t table systematic seed first batches)
+promise_of (Some (commands.Relay seed extra count)) = relay_promise seed extra count
 promise_of (Some (commands.Sink workers both)) = sink_promise both
 promise_of (Some commands.Show) = show_promise
 

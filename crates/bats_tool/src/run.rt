@@ -15,7 +15,7 @@ use std::thread::Threads;
 use tool_run::{Finish, Status, Stop, conclude, refuse};
 use tool_sink::sink;
 use tool_source::source;
-use tool_stream::show;
+use tool_stream::{relay, show};
 
 // How words end that are no command: nothing is read or written.
 fn usage(alloc: Global) -> Result<Finish, Stop>
@@ -62,6 +62,9 @@ fn attempt<R: Threads + Sync, S: Source, O: Sink, C: Ledger, L: Ledger>(
             };
             source(alloc, &options, input, output)
         }
+        Some(Command::Relay { seed, extra, count }) => relay(
+            alloc, seed, extra, count, input, output, coef_steps, steps,
+        ),
         Some(Command::Sink { workers, both }) => sink(
             rt, alloc, workers, both, input, output, coef_steps, steps,
         ),

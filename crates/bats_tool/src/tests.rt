@@ -28,6 +28,8 @@ const SMALL_OUTPUT: [u8; 50] = [
 const SAMPLED_OUTPUT: &[u8] =
     b"BTS\x01\x02\x01\0\x01\0\0\0\0\0\0\0\x05\0\0\0\0\0\0\0\0\0\0\0\0\0\0\0\0P\0\0\0\0\x01\0\xcfP\0\0\0\0\0\x01\x8f";
 
+const RELAY: &str = "relay --seed 00000000000000000000000000000000 --rule fixed --count 2";
+
 // A change of the small packet file that changes nothing.
 const AS_IT_IS: (usize, u8) = (0, b'B');
 
@@ -74,7 +76,7 @@ fn make_run<R: AllocGlobal + Threads + Sync>(
         most,
         vec![in alloc; fails[0]]?,
     );
-    let mut output = MemSink::with_room(alloc, 100_000, most, vec![in alloc; fails[1]]?)?;
+    let mut output = MemSink::with_room(alloc, 1_000_000, most, vec![in alloc; fails[1]]?)?;
     let mut notes = MemSink::with_room(alloc, 1_000, most, vec![in alloc; fails[2]]?)?;
     let status = run_over(rt, alloc, &words, &mut input, &mut output, &mut notes);
     Ok(Ran {

@@ -11,11 +11,11 @@ use Rattle.hex.specs.Hex.{decode_sized}
 use Rattle.hex.specs.declared.error.FromHexError.{FromHexError}
 use Rattle.hex.proofs.HexLemmas.{decode_sized-ok, decode_sized-twice, decode_of-ok}
 use Rattle.bats_words.specs.declared.command.Command.{Command}
-use Rattle.bats_words.specs.declared.command.Command.TheVariants.{Source, Sink, Show}
+use Rattle.bats_words.specs.declared.command.Command.TheVariants.{Source, Relay, Sink, Show}
 use Rattle.bats_words.specs.Options.{IsSeed, InRanges}
 use Rattle.bats_words.specs.WordItems.{KnownNames, read_items, value_of, is_there}
-use Rattle.bats_words.specs.WordValues.{number_in, is_number_word, seed_of}
-use Rattle.bats_words.specs.Words.{command_of, read_by, read_or, source_of, source_names, sink_of, sink_names, show_of, show_names}
+use Rattle.bats_words.specs.WordValues.{number_in, is_number_word, rule_of, seed_of}
+use Rattle.bats_words.specs.Words.{command_of, read_by, read_or, source_of, source_names, relay_of, relay_names, sink_of, sink_names, show_of, show_names}
 use Rattle.bats_words.proofs.CommandWords.{Builder}
 
 -- ---- values
@@ -92,6 +92,16 @@ source_of-ranges value flag command h =
       option_seed (value (codes "--seed")) seed seed_is,
     )))))))
 
+pub relay_of-ranges : IsWithin relay_of
+unfolding relay_of
+relay_of-ranges value flag command h =
+    option_and_then_some _ (option_and_then seed_of (value (codes "--seed"))) command h (λ seed seed_is rest.
+    option_and_then_some _ (option_and_then rule_of (value (codes "--rule"))) command rest (λ extra extra_is rest'.
+    option_and_then_some _ (option_and_then (number_in 0 64) (value (codes "--count"))) command rest' (λ count count_is rest2.
+    let same : Relay seed extra count ≡ command = cc in
+    let r = option_range 0 64 count (value (codes "--count")) count_is in
+    subst (λ (c : Command). InRanges c) same (record { high = r.1 }, option_seed (value (codes "--seed")) seed seed_is))))
+
 pub sink_of-ranges : IsWithin sink_of
 unfolding sink_of
 sink_of-ranges value flag command h =
@@ -134,5 +144,6 @@ unfolding command_of
 command_of-ranges [] command h = cc
 command_of-ranges (name ∷ words) command h =
     by_choice _ _ _ command (read_by-ranges source_names source_of source_of-ranges words command) (
+    by_choice _ _ _ command (read_by-ranges relay_names relay_of relay_of-ranges words command) (
     by_choice _ _ _ command (read_by-ranges sink_names sink_of sink_of-ranges words command) (
-    by_choice _ _ _ command (read_by-ranges show_names show_of show_of-ranges words command) (no_command command))) h
+    by_choice _ _ _ command (read_by-ranges show_names show_of show_of-ranges words command) (no_command command)))) h

@@ -3,7 +3,7 @@ use Rattle.std.proofs.Common.{◌≡◌, ℕ, Bool, true, false, List, Option, S
 use Rattle.std.specs.Option.{option_and_then}
 use Rattle.bats_words.specs.WordItems.{KnownNames, Item, is_among, items_of, read_items, value_of, is_there}
 use Rattle.bats_words.specs.WordLookup.{word_after}
-use Rattle.bats_words.specs.Words.{read_by, source_of, source_names, sink_of, sink_names, show_of, show_names}
+use Rattle.bats_words.specs.Words.{read_by, source_of, source_names, relay_of, relay_names, sink_of, sink_names, show_of, show_names}
 use Rattle.bats_words.specs.declared.command.Command.{Command}
 use Rattle.bats_words.proofs.WordLookups.{some_of, none_of, items_of-read, value_of-items, is_there-items}
 
@@ -43,6 +43,15 @@ source_of-items words items e =
       value_of-items source_names (codes "--table") refl refl words items e,
       value_of-items source_names (codes "--from") refl refl words items e,
       is_there-items source_names (codes "--systematic") refl words items e,
+    )
+
+pub relay_of-items : (words : List (List ℕ)) (items : List Item) → items_of relay_names words ≡ Some items → of_words relay_of words ≡ of_items relay_of items
+unfolding relay_of
+relay_of-items words items e =
+    rw (
+      value_of-items relay_names (codes "--seed") refl refl words items e,
+      value_of-items relay_names (codes "--rule") refl refl words items e,
+      value_of-items relay_names (codes "--count") refl refl words items e,
     )
 
 pub sink_of-items : (words : List (List ℕ)) (items : List Item) → items_of sink_names words ≡ Some items → of_words sink_of words ≡ of_items sink_of items

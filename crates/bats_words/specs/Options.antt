@@ -29,9 +29,14 @@ pub record HasWorkers (workers : ℕ) : Type 0 where
   pub low : 1 ≤ workers
   pub high : workers ≤ 64
 
+-- the number of a relay's rule is in the range that words are held to
+pub record HasCount (count : ℕ) : Type 0 where
+  pub high : count ≤ 64
+
 -- the values of a command are in the ranges that words are held to
 abbrev pub InRanges : Command → Type 0
 InRanges (commands.Source m t table systematic seed first batches) =
     HasRanges (source_options m t table systematic seed first batches) × IsSeed seed
+InRanges (commands.Relay seed extra count) = HasCount count × IsSeed seed
 InRanges (commands.Sink workers both) = HasWorkers workers
 InRanges commands.Show = Unit {0}

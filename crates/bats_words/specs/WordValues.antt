@@ -1,8 +1,9 @@
 -- The kinds of values that an option may have.
-use Rattle.std.specs.Prelude.{ℕ, nat_le, ◌&&◌, Bool, List, length, Option, Some, None, if◌then◌else◌}
+use Rattle.std.specs.Prelude.{ℕ, nat_le, ◌&&◌, Bool, true, false, List, length, Option, Some, None, if◌then◌else◌, codes}
 use Rattle.std.specs.Char.{is_ascii_digit}
 use Rattle.std.specs.List.{list_all}
 use Rattle.std.specs.Result.{result_ok}
+use Rattle.std.specs.Str.{bytes_eq}
 use Rattle.std.specs.Str.Parse.{digits_value}
 use Rattle.hex.specs.Hex.{decode_sized}
 
@@ -15,6 +16,13 @@ unfoldable pub number_in : ℕ → ℕ → List ℕ → Option ℕ
 number_in low high word =
     if is_number_word word && nat_le low (digits_value 10 word) && nat_le (digits_value 10 word) high
     then Some (digits_value 10 word)
+    else None
+
+-- whether the word of a rule is `extra`; else it is `fixed`
+unfoldable pub rule_of : List ℕ → Option Bool
+rule_of word =
+    if bytes_eq word (codes "extra") then Some true
+    else if bytes_eq word (codes "fixed") then Some false
     else None
 
 -- the 16 bytes that a word of 32 hexadecimal digits of either case is

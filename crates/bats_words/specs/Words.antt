@@ -3,9 +3,9 @@
 use Rattle.std.specs.Prelude.{ℕ, Bool, List, [], ◌∷◌, Option, Some, None, option_and_then, if◌then◌else◌, codes}
 use Rattle.std.specs.Str.{bytes_eq}
 use Rattle.bats_words.specs.WordItems.{KnownNames, read_items, value_of, is_there}
-use Rattle.bats_words.specs.WordValues.{number_in, seed_of}
+use Rattle.bats_words.specs.WordValues.{number_in, rule_of, seed_of}
 use Rattle.bats_words.specs.declared.command.Command.{Command}
-use Rattle.bats_words.specs.declared.command.Command.TheVariants.{Source, Sink, Show}
+use Rattle.bats_words.specs.declared.command.Command.TheVariants.{Source, Relay, Sink, Show}
 
 -- the second step, if the first gave a value
 infixl 10 ◌>>=◌
@@ -43,6 +43,20 @@ source_of value flag = do
   first ← read_or 0 (number_in 0 4000000000) (value (codes "--from"))
   Some (Source m t table (flag (codes "--systematic")) seed first batches)
 
+-- ---- relay
+
+-- the names of `relay`
+abbrev pub relay_names : KnownNames
+relay_names = record { options = codes "--seed" ∷ codes "--rule" ∷ codes "--count" ∷ []; flags = [] }
+
+-- The command `relay`, in this order: the seed, whether the rule is `extra`, and the number of the rule.
+unfoldable pub relay_of : (List ℕ → Option (List ℕ)) → (List ℕ → Bool) → Option Command
+relay_of value flag = do
+  seed ← value (codes "--seed") >>= seed_of
+  extra ← value (codes "--rule") >>= rule_of
+  count ← value (codes "--count") >>= number_in 0 64
+  Some (Relay seed extra count)
+
 -- ---- sink
 
 -- the names of `sink`
@@ -73,6 +87,7 @@ unfoldable pub command_of : List (List ℕ) → Option Command
 command_of [] = None
 command_of (name ∷ words) =
     if bytes_eq name (codes "source") then read_by source_names source_of words
+    else if bytes_eq name (codes "relay") then read_by relay_names relay_of words
     else if bytes_eq name (codes "sink") then read_by sink_names sink_of words
     else if bytes_eq name (codes "show") then read_by show_names show_of words
     else None

@@ -20,6 +20,15 @@ pub enum Command {
         /// How many batches, from the first on.
         batches: u32,
     },
+    /// Mixes the packets that are read, batch by batch, and sends the sums.
+    Relay {
+        /// The relay's seed.
+        seed: [u8; 16],
+        /// Whether a batch's rank is added to the number of its outputs.
+        extra: bool,
+        /// How many outputs of each held batch, 0 to 64, beside its rank where that is added.
+        count: u32,
+    },
     /// Solves for the file of a session from the packets that are read.
     Sink {
         /// How many workers share the solving, 1 to 64.

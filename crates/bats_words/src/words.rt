@@ -3,7 +3,7 @@ ghost use Rattle.std.specs.Prelude.{◌≡◌, map, string_bytes, IfSome};
 ghost use Rattle.bats_words.specs.Options.{InRanges};
 ghost use Rattle.bats_words.specs.WordItems.{is_among};
 ghost use Rattle.bats_words.specs.WordLookup.{word_after};
-ghost use Rattle.bats_words.specs.Words.{command_of, read_by, source_of, source_names};
+ghost use Rattle.bats_words.specs.Words.{command_of, read_by, source_of, source_names, relay_of, relay_names};
 ghost use Rattle.bats_words.specs.Words.{sink_of, sink_names, show_of, show_names};
 
 mod items;
@@ -12,7 +12,7 @@ mod values;
 
 use crate::command::Command;
 use crate::words::items::{Names, are_read, has};
-use crate::words::options::{number, number_or, seed};
+use crate::words::options::{number, number_or, rule, seed};
 
 /// The command that the words after the program's name are, if they are one. Its values stand in their ranges.
 #[tactic(auto, unfolding(crate::specs::Words::command_of))]
@@ -23,6 +23,7 @@ pub fn parse(words: &Vec<String>) -> Option<Command>
     let (name, rest) = words.split_first()?;
     match name.as_str() {
         "source" => source(rest),
+        "relay" => relay(rest),
         "sink" => sink(rest),
         "show" => show(rest),
         _ => None,
@@ -64,6 +65,37 @@ fn source_of(words: &[String]) -> Option<Command>
         seed,
         first: first as u32,
         batches: batches as u32,
+    })
+}
+
+// The names of `relay`.
+const RELAY: Names = Names {
+    options: &["--seed", "--rule", "--count"],
+    flags: &[],
+};
+
+fn relay(words: &[String]) -> Option<Command>
+    ensures { result ≡ read_by relay_names relay_of (map string_bytes words.now) }
+{
+    if !are_read(&RELAY, words) {
+        return None;
+    }
+    relay_of(words)
+}
+
+// The command of words that are options of `relay`, none of them twice.
+#[tactic(auto, unfolding(crate::specs::Words::relay_of))]
+fn relay_of(words: &[String]) -> Option<Command>
+    ensures { let texts = map string_bytes words.now in
+        result ≡ relay_of (λ name. word_after name texts) (is_among texts) }
+{
+    let seed = seed("--seed", words)?;
+    let extra = rule("--rule", words)?;
+    let count = number("--count", words, 0, 64)?;
+    Some(Command::Relay {
+        seed,
+        extra,
+        count: count as u32,
     })
 }
 
@@ -195,7 +227,7 @@ mod tests {
     }
 
     #[test]
-    fn reads_sink_and_show(rt: HostRuntime) -> Result<(), Fail> {
+    fn reads_relay_sink_and_show(rt: HostRuntime) -> Result<(), Fail> {
         for (line, workers, both) in [
             ("sink", 1, false),
             ("sink --workers 1", 1, false),
@@ -208,6 +240,22 @@ mod tests {
                 Some(Command::Sink { workers, both }),
                 "at {line}"
             );
+        }
+        for (line, extra, count) in [
+            (
+                "relay --seed 00112233445566778899aabbccddeeff --rule fixed --count 0",
+                false,
+                0,
+            ),
+            (
+                "relay --count 64 --rule extra --seed 00112233445566778899AABBCCDDEEFF",
+                true,
+                64,
+            ),
+        ] {
+            let seed = SEED;
+            let want = Command::Relay { seed, extra, count };
+            assert_eq!(rt; parsed(&rt, line)?, Some(want), "at {line}");
         }
         assert_eq!(rt; parsed(&rt, "show")?, Some(Command::Show));
         Ok(())
@@ -270,6 +318,15 @@ mod tests {
             "source --m 2 --t 2 --seed 00112233445566778899aabbccddeeff0 --batches 1",
             "source --m 2 --t 2 --seed 00112233445566778899aabbccddeefg --batches 1",
             "source --m 2 --t 2 --seed 0x112233445566778899aabbccddeeff --batches 1",
+            // Other words of `relay`.
+            "relay --seed 00112233445566778899aabbccddeeff --rule fixed",
+            "relay --seed 00112233445566778899aabbccddeeff --count 1",
+            "relay --rule fixed --count 1",
+            "relay --seed 00112233445566778899aabbccddeeff --rule fixed --count 65",
+            "relay --seed 00112233445566778899aabbccddeeff --rule Fixed --count 1",
+            "relay --seed 00112233445566778899aabbccddeeff --rule fixe --count 1",
+            "relay --seed 00112233445566778899aabbccddeeff --rule fixed extra --count 1",
+            "relay --seed 00112233445566778899aabbccddeeff --rule fixed --count 1 --both",
             // Other words of `sink`, and words after `show`.
             "sink --workers",
             "sink --workers --both",

@@ -21,8 +21,8 @@ const EMPTY: &str =
 const SAMPLED: &str =
     "source --m 2 --t 1 --seed 00000000000000000000000000000000 --batches 1 --table 1";
 
-// Runs that send or receive a file.
-const ANSWERED: [Row; 19] = [
+// Runs that send, relay or receive a file.
+const ANSWERED: [Row; 21] = [
     Row {
         words: SMALL,
         front: 0,
@@ -195,6 +195,25 @@ const ANSWERED: [Row; 19] = [
         status: Status::Done,
         output: b"header at=0 m=2 t=2 length=0 symbols=0 systematic=1 table=0 seed=00000000000000000000000000000000\nheader at=32 m=2 t=2 length=0 symbols=0 systematic=1 table=0 seed=00000000000000000000000000000000\npacket at=64 batch=4294967295 coefs=0ab0 payload=cd0e\n",
         notes: "show: headers=2 packets=1\n",
+    },
+    Row {
+        words: RELAY,
+        front: 32,
+        change: AS_IT_IS,
+        more: b"",
+        status: Status::Done,
+        output: b"BTS\x01\x02\x80\0\x02\0\0\0\0\0\0\0\x04\0\0\0\0\0\0\0\0\0\0\0\0\0\0\0\0",
+        notes: "relay: packets=0 kept=0 batches=0 sent=0\n",
+    },
+    // The first bytes of the words of the relay's key are 81 for output 0, and d0 for output 1.
+    Row {
+        words: RELAY,
+        front: 41,
+        change: AS_IT_IS,
+        more: b"",
+        status: Status::Done,
+        output: b"BTS\x01\x02\x80\0\x02\0\0\0\0\0\0\0\x04\0\0\0\0\0\0\0\0\0\0\0\0\0\0\0\0P\0\0\0\0\x81\0\x81\x1fP\0\0\0\0\xd0\0\xd0\xbd",
+        notes: "relay: packets=1 kept=1 batches=1 sent=2\n",
     },
 ];
 

@@ -20,7 +20,7 @@ packet at=32 batch=0 coefs=0100 payload=0102
 packet at=41 batch=0 coefs=0001 payload=0304
 ";
 
-const RUNS: [Calls; 3] = [
+const RUNS: [Calls; 4] = [
     // Two reads give the file, and the third its end. 11 writes for the header, 2 + 1 + 1 for each packet, and the flush.
     Calls {
         words: SMALL,
@@ -40,6 +40,16 @@ const RUNS: [Calls; 3] = [
         reads: 23,
         writes: 3,
         reports: 14,
+    },
+    // As many reads. 11 writes for the header, 2 + 1 + 1 for the packet, and the flush.
+    Calls {
+        words: "relay --seed 00000000000000000000000000000000 --rule fixed --count 1",
+        input: &SMALL_OUTPUT,
+        output: b"BTS\x01\x02\x80\0\x02\0\0\0\0\0\0\0\x04\0\0\0\0\0\0\0\0\0\0\0\0\0\0\0\0P\0\0\0\0\x81\x0f\x90\x23",
+        notes: "relay: packets=2 kept=2 batches=1 sent=1\n",
+        reads: 23,
+        writes: 16,
+        reports: 15,
     },
     // As many reads. 33 writes for the header's line, 15 for each packet's, and the flush.
     Calls {

@@ -1,4 +1,4 @@
-// Runs at the limits: 4,096 symbols, and 1,048,576 records.
+// Runs at the limits: 4,096 symbols, 1,048,576 records, and 8,192 kept packets.
 use super::*;
 
 #[test]
@@ -41,4 +41,52 @@ fn takes_no_more_records(rt: HostRuntime) -> Result<(), Fail> {
     let run = make_run(&rt, "sink", &input, 1000, [0, 0, 0])?;
     assert_left(&rt, &run, Status::Limit, &[], "bats: limit records\n");
     Ok(())
+}
+
+// The words of a relay with this rule, on so many batches of a file of one byte: its status, its notes line, and how many
+// bytes it writes.
+fn assert_relayed<R: AllocGlobal + Threads + Sync + Abort>(
+    rt: &R,
+    batches: u32,
+    rule: &str,
+    status: Status,
+    notes: &str,
+    size: usize,
+) -> Result<(), Fail> {
+    let source = format!(in rt.alloc();
+        "source --m 32 --t 1 --table 1 --seed 00000000000000000000000000000000 --batches {batches}"
+    )?;
+    let relay = format!(in rt.alloc();
+        "relay --seed 00000000000000000000000000000000 --rule {rule}"
+    )?;
+    let sent = make_run(rt, &source, &[7], 1000, [0, 0, 0])?;
+    let run = make_run(rt, &relay, sent.output.written(), 1000, [0, 0, 0])?;
+    assert_eq!(rt; run.notes.written(), notes.as_bytes(), "instead of {notes}");
+    assert_eq!(rt; run.status, status, "at {notes}");
+    assert_eq!(rt; run.output.written().len(), size, "at {notes}");
+    Ok(())
+}
+
+#[test]
+fn relays_as_many_as_may_be_kept(rt: HostRuntime) -> Result<(), Fail> {
+    let none = "relay: packets=8192 kept=8192 batches=256 sent=0\n";
+    assert_relayed(&rt, 256, "fixed --count 0", Status::Done, none, 32)?;
+    // 32 packets and 64 more of each batch, records of 38 bytes.
+    let more = "relay: packets=8192 kept=8192 batches=256 sent=24576\n";
+    assert_relayed(
+        &rt,
+        256,
+        "extra --count 64",
+        Status::Done,
+        more,
+        32 + 24_576 * 38,
+    )?;
+    assert_relayed(
+        &rt,
+        257,
+        "fixed --count 0",
+        Status::Limit,
+        "bats: limit kept\n",
+        0,
+    )
 }

@@ -80,6 +80,7 @@ fn refuses_other_inputs(rt: HostRuntime) -> Result<(), Fail> {
     ] {
         let input = input_of(rt.alloc(), front, change, more)?;
         assert_refused(&rt, "sink", &input, Status::Input, notes)?;
+        assert_refused(&rt, RELAY, &input, Status::Input, notes)?;
     }
     Ok(())
 }

@@ -1,11 +1,11 @@
 //! The values of options, read among the words.
 ghost use Rattle.std.specs.Prelude.{◌≡◌, ◌≤◌, map, string_bytes, IfSome, option_and_then};
 ghost use Rattle.bats_words.specs.WordLookup.{word_after};
-ghost use Rattle.bats_words.specs.WordValues.{number_in, seed_of};
+ghost use Rattle.bats_words.specs.WordValues.{number_in, rule_of, seed_of};
 ghost use Rattle.bats_words.specs.Words.{read_or};
 
 use crate::words::items::word_after;
-use crate::words::values::{number_in, seed_of};
+use crate::words::values::{number_in, rule_of, seed_of};
 
 /// The number from `low` to `high` that stands after `name`.
 pub(crate) fn number(name: &str, words: &[String], low: u64, high: u64) -> Option<u64>
@@ -41,4 +41,12 @@ pub(crate) fn seed(name: &str, words: &[String]) -> Option<[u8; 16]>
         result ≡ option_and_then seed_of word }
 {
     seed_of(word_after(name, words)?)
+}
+
+/// Whether the rule that stands after `name` is `extra`, and not `fixed`.
+pub(crate) fn rule(name: &str, words: &[String]) -> Option<bool>
+    ensures { let word = word_after name.now (map string_bytes words.now) in
+        result ≡ option_and_then rule_of word }
+{
+    rule_of(word_after(name, words)?)
 }

@@ -1,6 +1,6 @@
 //! The kinds of values: numbers in a range, and seeds.
 ghost use Rattle.std.specs.Prelude.{◌≡◌, ◌≤◌, IfSome};
-ghost use Rattle.bats_words.specs.WordValues.{number_in, seed_of, is_number_word};
+ghost use Rattle.bats_words.specs.WordValues.{number_in, rule_of, seed_of, is_number_word};
 
 use hex::FromHex;
 
@@ -21,6 +21,18 @@ pub(crate) fn seed_of(word: &str) -> Option<[u8; 16]>
     ensures { result ≡ seed_of word.now }
 {
     <[u8; 16] as FromHex>::from_hex(word).ok()
+}
+
+/// Whether the word of a rule is `extra`; else it is `fixed`.
+#[tactic(auto, unfolding(crate::specs::WordValues::rule_of))]
+pub(crate) fn rule_of(word: &str) -> Option<bool>
+    ensures { result ≡ rule_of word.now }
+{
+    match word {
+        "extra" => Some(true),
+        "fixed" => Some(false),
+        _ => None,
+    }
 }
 
 fn is_number_word(word: &str) -> bool

@@ -1,0 +1,129 @@
+-- What `relay` sends, how it ends on an input, and what it promises.
+use Rattle.std.specs.Prelude.{ℕ, ◌≡◌, ◌≤◌, ◌<◌, ◌⊎◌, ◌↔◌, Bool, List, [], ◌∷◌, ◌++◌, length, map, flat_map, sum_by, codes, Option, Some, None, if◌then◌else◌}
+use Rattle.std.specs.List.{Contains}
+use Rattle.std.specs.List.Sorted.{IsStrictlyIncreasing}
+use Rattle.std.specs.Fmt.{decimal}
+use Rattle.bats_model.specs.Session.{SessionData}
+use Rattle.bats_model.specs.Kept.{kept_of, kept_count}
+use Rattle.bats_model.specs.PacketFile.{IsPacketFile, packets_of}
+use Rattle.bats_model.specs.Records.{header_record, packet_record}
+use Rattle.bats_model.specs.Refusal.{HasFront}
+use Rattle.bats_model.specs.Relay.{relay_outputs}
+use Rattle.bats_model.specs.declared.packet.Packet.{Packet}
+use Rattle.bats_model.specs.declared.item.Item.{Item}
+use Rattle.bats_model.specs.declared.item.Item.TheVariants as items
+use Rattle.bats_model.specs.declared.read_end.ReadEnd.{ReadEnd}
+use Rattle.bats_batch.specs.Held.{max_kept}
+use Rattle.bats_relay.specs.Rule.{fixed_count, extra_count}
+use Rattle.tool_run.specs.declared.status.Status.TheVariants as statuses
+use Rattle.tool_run.specs.Ending.{Ending, refusal, in_part, to_end}
+use Rattle.tool_run.specs.Promise.{Promise, IsBegun}
+use Rattle.tool_records.specs.Reading.{IsReading, refused_ending}
+use Rattle.tool_records.specs.ReadsRecords.{ReadsRecords}
+
+-- the numbers are those of the batches that have a kept packet, rising
+pub record AreHeld (packets : List Packet) (numbers : List ℕ) : Type 0 where
+  pub rising : IsStrictlyIncreasing numbers
+  pub held : (number : ℕ) → Contains numbers number ↔ 0 < length (kept_of number packets)
+
+-- how many outputs the rule gives a batch of this rank: `extra` its rank, m at most, and the count; `fixed` the count
+abbrev pub output_count : SessionData → Bool → ℕ → ℕ → ℕ
+output_count session extra count rank = if extra then extra_count session.m count rank else fixed_count count rank
+
+-- what is sent of a batch: its outputs, as many as the rule gives, numbered from 0
+abbrev pub batch_outputs : SessionData → List ℕ → Bool → ℕ → List Packet → ℕ → List Packet
+batch_outputs session seed extra count packets number =
+    let kept = kept_of number packets in
+    relay_outputs session seed number 0 (output_count session extra count (length kept)) kept
+
+-- the record of a packet
+abbrev pub sent_record : Packet → List ℕ
+sent_record packet = packet_record packet.batch packet.coefs packet.payload
+
+-- what is sent of all batches with these numbers, batch by batch
+abbrev pub sent_packets : SessionData → List ℕ → Bool → ℕ → List Packet → List ℕ → List Packet
+sent_packets session seed extra count packets numbers = flat_map (batch_outputs session seed extra count packets) numbers
+
+-- the header, and then the records of what is sent
+abbrev pub relayed_output : SessionData → List ℕ → Bool → ℕ → List Packet → List ℕ → List ℕ
+relayed_output session seed extra count packets numbers =
+    header_record session ++ flat_map sent_record (sent_packets session seed extra count packets numbers)
+
+-- the notes line: the packets received, those kept, the batches held, and the outputs sent
+abbrev pub relay_line : ℕ → ℕ → ℕ → ℕ → List ℕ
+relay_line packets kept batches sent =
+    codes "relay: packets=" ++ (decimal packets ++ (codes " kept=" ++ (decimal kept
+    ++ (codes " batches=" ++ (decimal batches ++ (codes " sent=" ++ (decimal sent ++ codes "\n")))))))
+
+-- the ending of a packet file with these packets, whose held batches have these numbers
+abbrev pub relayed_ending : SessionData → List ℕ → Bool → ℕ → List Packet → List ℕ → Ending
+relayed_ending session seed extra count packets numbers = record {
+  status = statuses.Done;
+  output = relayed_output session seed extra count packets numbers;
+  line = relay_line (length packets) (kept_count packets) (length numbers)
+    (length (sent_packets session seed extra count packets numbers));
+  reach = to_end;
+}
+
+-- no more of the packets among the items are kept than may be
+abbrev pub AreFew : Option SessionData → List Item → Type 0
+AreFew None list = Unit {0}
+AreFew (Some session) list = kept_count (packets_of list) ≤ max_kept
+
+-- the whole input is a packet file, and no more of its packets are kept than may be: the ending is that of what is sent
+pub record RelaySends (seed : List ℕ) (extra : Bool) (count : ℕ) (input : List ℕ) (ending : Ending) : Type 0 where
+  pub session : SessionData
+  pub list : List Item
+  pub file : IsPacketFile session list input
+  pub few : AreFew (Some session) list
+  pub numbers : List ℕ
+  pub held : AreHeld (packets_of list) numbers
+  pub ending_is : ending ≡ relayed_ending session seed extra count (packets_of list) numbers
+
+-- the input is refused, and no more of the packets before are kept than may be
+pub record RelayRefuses (input : List ℕ) (ending : Ending) : Type 0 where
+  pub session : Option SessionData
+  pub list : List Item
+  pub end : ReadEnd
+  pub reading : IsReading input session list (Some end)
+  pub few : AreFew session list
+  pub ending_is : ending ≡ refused_ending [] end
+
+-- the notes line of an input of whose packets more are new than may be kept
+abbrev pub kept_limit_line : List ℕ
+kept_limit_line = codes "bats: limit kept\n"
+
+abbrev pub kept_limit_ending : Ending
+kept_limit_ending = refusal statuses.Limit kept_limit_line in_part
+
+-- a packet comes that would be kept when no more may be, in a whole record
+pub record RelayIsFull (input : List ℕ) (ending : Ending) : Type 0 where
+  pub session : SessionData
+  pub list : List Item
+  pub at : ℕ
+  pub packet : Packet
+  pub front : List ℕ
+  pub rest : List ℕ
+  pub is_front : HasFront input session (list ++ items.Packet at packet ∷ []) front rest
+  pub few : AreFew (Some session) list
+  pub full : ¬ AreFew (Some session) (list ++ items.Packet at packet ∷ [])
+  pub ending_is : ending ≡ kept_limit_ending
+
+-- how `relay` ends where memory is found and no read, write or flush fails
+abbrev pub IsRelayEnding : List ℕ → Bool → ℕ → List ℕ → Ending → Type 0
+IsRelayEnding seed extra count input ending =
+    RelaySends seed extra count input ending ⊎ (RelayRefuses input ending ⊎ RelayIsFull input ending)
+
+-- a relay reads on while no more packets are kept than may be
+abbrev pub takes_few : SessionData → List Item → Type 0
+takes_few session list = AreFew (Some session) list
+
+-- what `relay` promises: it reads a packet file record by record, no further than the first packet that would be kept
+-- when no more may be, and then writes
+abbrev pub relay_promise : List ℕ → Bool → ℕ → Promise
+relay_promise seed extra count = record {
+  ends = IsRelayEnding seed extra count;
+  reads = ReadsRecords takes_few;
+  partly = IsBegun (IsRelayEnding seed extra count);
+  partly_read = λ before after part. part ≡ [];
+}
