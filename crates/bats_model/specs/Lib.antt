@@ -13,3 +13,4 @@ pub mod Records
 pub mod PacketFile
 pub mod Refusal
 pub mod Kept
+pub mod Relay

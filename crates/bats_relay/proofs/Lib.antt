@@ -1,0 +1,4 @@
+pub mod MixedPackets
+pub mod OutputRows
+pub mod OutputAgreement
+pub mod RelayedPackets

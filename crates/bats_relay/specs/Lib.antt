@@ -1,0 +1,4 @@
+pub mod Rule
+pub mod Mixer
+pub mod Relay
+pub mod steps
