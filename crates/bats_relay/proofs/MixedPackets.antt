@@ -1,5 +1,5 @@
 -- Kept packets are added one after another, up to an output.
-use Rattle.std.proofs.Common.{ℕ, ◌≡◌, ◌<◌, ◌≤◌, ◌+◌, ◌^◌, ◌∙◌, List, [], ◌∷◌, ◌++◌, length, get_or, take, map, replicate, sym, ap, refl, arith}
+use Rattle.std.proofs.Common.{ℕ, ◌≡◌, ◌<◌, ◌≤◌, ◌+◌, ◌^◌, ◌∙◌, List, [], ◌∷◌, ◌++◌, length, get_or, take, map, replicate, sym, ap, subst, refl, arith}
 use Rattle.std.specs.Prelude.{All, slice_get, Option, Some}
 use Rattle.std.proofs.lemmas.List.{map-append, length-map, length-take-le, take_more}
 use Rattle.std.proofs.lemmas.List.Elements.{All-nil, All-push}
@@ -61,14 +61,17 @@ module _ (kept : List Packet) (factors : List ℕ) (sizes : length factors ≡ l
       ∙ combination-push width (take count factors) (get_or factors count 0) (map part (take count kept)) (part packet) so_far are size
 
   -- the next packet is added
-  pub IsMixed-more : {m t count : ℕ} {coefs payload : List ℕ} (packet : Packet) (factor : ℕ) → IsMixed m t kept factors count coefs payload
-      → slice_get kept count ≡ Some packet → IsSized m t packet → factor ≡ get_or factors count 0
-      → IsMixed m t kept factors (count + 1) (add_scaled_row coefs factor packet.coefs) (add_scaled_row payload factor packet.payload)
-  IsMixed-more {m} {t} {count} {coefs} {payload} packet factor is stands size same =
+  pub IsMixed-more : {m t count : ℕ} {coefs payload : List ℕ} (at next : ℕ) (packet : Packet) (factor : ℕ) → at ≡ count → next ≡ at + 1
+      → IsMixed m t kept factors count coefs payload → slice_get kept at ≡ Some packet → IsSized m t packet → factor ≡ get_or factors at 0
+      → IsMixed m t kept factors next (add_scaled_row coefs factor packet.coefs) (add_scaled_row payload factor packet.payload)
+  IsMixed-more {m} {t} {count} {coefs} {payload} at next packet factor here then is stands_at size same_at =
+      let stands : slice_get kept count ≡ Some packet = subst (λ (n : ℕ). slice_get kept n ≡ Some packet) here stands_at in
+      let same : factor ≡ get_or factors count 0 = subst (λ (n : ℕ). factor ≡ get_or factors n 0) here same_at in
       let within : count < length kept = slice_get_within kept count packet stands in
       let kept_more : take (count + 1) kept ≡ take count kept ++ packet ∷ [] =
       take_more kept count packet within ∙ ap (λ (p : Packet). take count kept ++ p ∷ []) (get_or_from_slice_get kept count packet packet stands) in
-      record {
+      subst (λ (n : ℕ). IsMixed m t kept factors n (add_scaled_row coefs factor packet.coefs) (add_scaled_row payload factor packet.payload))
+      {x = count + 1} (omega (arith, here, then)) (record {
         within = omega (arith, within);
         sized = rw kept_more (All-push (IsSized m t) (take count kept) packet is.sized size);
         coefs_mixed = ap (λ (f : ℕ). add_scaled_row coefs f packet.coefs) same
@@ -77,7 +80,7 @@ module _ (kept : List Packet) (factors : List ℕ) (sizes : length factors ≡ l
         payload_mixed = ap (λ (f : ℕ). add_scaled_row payload f packet.payload) same
             ∙ ap (λ (row : List ℕ). add_scaled_row row (get_or factors count 0) packet.payload) is.payload_mixed
             ∙ sym (part-more t count packet (λ (p : Packet). p.payload) stands (AreRows-payloads m t (take count kept) is.sized) size.payload);
-      }
+      })
 
 -- ---- all kept packets
 

@@ -16,6 +16,7 @@ use Rattle.bats_model.specs.declared.packet.Packet.{Packet}
 use Rattle.bats_model.proofs.KeptSpans.{is_of, All-kept_of}
 use Rattle.bats_model.proofs.KeptAgreement.{AgreesAt, Agrees-follows, kept-agreement}
 use Rattle.bats_batch.specs.Basis.{IsSized}
+use Rattle.bats_batch.specs.Held.{HeldData, StandsFor, kept_at}
 use Rattle.bats_relay.proofs.OutputRows.{IsSized-shape, combination-packets, length-mix_factors, mix_factors-lt, HasShape-output}
 
 -- an output follows from the kept packets: one list of factors gives its vector and its payload
@@ -60,6 +61,15 @@ pub Agrees-taken : (session : SessionData) (seed : List ℕ) (batch number : ℕ
 Agrees-taken session seed batch number packets file range shapes agrees =
     Agrees-output session seed batch number (kept_of batch packets) file range (All-kept_of (HasShape session) batch packets shapes)
     (own-kept batch packets) (((kept-agreement session packets file shapes).0 agrees).0 batch)
+
+-- the same of held batches that stand for the packets
+pub Agrees-held : (packets : List Packet) (held : HeldData) (seed : List ℕ) (batch number : ℕ) (file : List ℕ) (packet : Packet)
+    → batch < 2 ^ 32 → StandsFor packets held → AgreesWithAll held.session packets file
+    → packet ≡ relay_output held.session seed batch number (kept_at held.batches batch) → Agrees held.session file packet
+Agrees-held packets held seed batch number file packet range stands agrees is =
+    subst (Agrees held.session file)
+    (sym (is ∙ ap (relay_output held.session seed batch number) (stands.kept batch)))
+    (Agrees-taken held.session seed batch number packets file range stands.shapes agrees)
 
 pub AgreesWithAll-outputs : (session : SessionData) (seed : List ℕ) (batch first count : ℕ) (packets : List Packet) (file : List ℕ)
     → batch < 2 ^ 32 → All (HasShape session) packets → AgreesWithAll session packets file

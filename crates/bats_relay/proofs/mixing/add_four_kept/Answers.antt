@@ -1,4 +1,4 @@
-use Rattle.std.proofs.Common.{◌∙◌, length, sym, ap}
+use Rattle.std.proofs.Common.{◌∙◌, ◌+◌, length, sym, ap, refl, arith}
 use Rattle.bats_relay.proofs.MixedPackets.{length-coefs, length-payload, IsMixed-more}
 use Rattle.bats_relay.proofs.mixing.add_four_kept.Goals as goal
 
@@ -56,10 +56,10 @@ returns c =
       c.payload-4.ensures.factor,
       c.payload-4.ensures.row,
     )
-    (IsMixed-more c.args.basis.now.kept c.args.factors.now c.requires.factors c.term_at-d.result.packet.now c.term_at-d.result.factor
-    (IsMixed-more c.args.basis.now.kept c.args.factors.now c.requires.factors c.term_at-c.result.packet.now c.term_at-c.result.factor
-    (IsMixed-more c.args.basis.now.kept c.args.factors.now c.requires.factors c.term_at-b.result.packet.now c.term_at-b.result.factor
-    (IsMixed-more c.args.basis.now.kept c.args.factors.now c.requires.factors c.term_at-a.result.packet.now c.term_at-a.result.factor c.requires.before
+    (IsMixed-more c.args.basis.now.kept c.args.factors.now c.requires.factors (c.args.first + 3) (c.args.first + 4) c.term_at-d.result.packet.now c.term_at-d.result.factor (omega arith) (omega arith)
+    (IsMixed-more c.args.basis.now.kept c.args.factors.now c.requires.factors (c.args.first + 2) (c.args.first + 3) c.term_at-c.result.packet.now c.term_at-c.result.factor (omega arith) (omega arith)
+    (IsMixed-more c.args.basis.now.kept c.args.factors.now c.requires.factors (c.args.first + 1) (c.args.first + 2) c.term_at-b.result.packet.now c.term_at-b.result.factor (omega arith) (omega arith)
+    (IsMixed-more c.args.basis.now.kept c.args.factors.now c.requires.factors c.args.first (c.args.first + 1) c.term_at-a.result.packet.now c.term_at-a.result.factor refl refl c.requires.before
     c.term_at-a.ensures.packet c.term_at-a.ensures.sized c.term_at-a.ensures.factor)
     c.term_at-b.ensures.packet c.term_at-b.ensures.sized c.term_at-b.ensures.factor)
     c.term_at-c.ensures.packet c.term_at-c.ensures.sized c.term_at-c.ensures.factor)

@@ -1,4 +1,4 @@
-use Rattle.std.proofs.Common.{◌∙◌, length, sym, ap}
+use Rattle.std.proofs.Common.{◌∙◌, ◌+◌, length, sym, ap, refl}
 use Rattle.bats_relay.proofs.MixedPackets.{length-coefs, length-payload, IsMixed-more}
 use Rattle.bats_relay.proofs.mixing.add_kept.Goals as goal
 
@@ -20,5 +20,5 @@ returns c =
       c.payload-bytes.ensures.factor,
       c.payload-bytes.ensures.row,
     )
-    (IsMixed-more c.args.basis.now.kept c.args.factors.now c.requires.factors c.term_at-term.result.packet.now c.term_at-term.result.factor c.requires.before
+    (IsMixed-more c.args.basis.now.kept c.args.factors.now c.requires.factors c.args.i (c.args.i + 1) c.term_at-term.result.packet.now c.term_at-term.result.factor refl refl c.requires.before
     c.term_at-term.ensures.packet c.term_at-term.ensures.sized c.term_at-term.ensures.factor)
