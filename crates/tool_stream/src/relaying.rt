@@ -1,5 +1,5 @@
 //! The command `relay`.
-ghost use Rattle.std.specs.Prelude.{◌≡◌, ◌≤◌, List, string_bytes, IfOk};
+ghost use Rattle.std.specs.Prelude.{ℕ, ◌≡◌, ◌≤◌, List, string_bytes, IfOk};
 ghost use Rattle.bats_model.specs.Session.{SessionData};
 ghost use Rattle.bats_model.specs.declared.item.Item.{Item};
 ghost use Rattle.tool_run.specs.Attempt.{Attempts};

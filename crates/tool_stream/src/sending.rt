@@ -68,17 +68,17 @@ fn send_place<F: Fn(u32) -> u32, O: Sink>(
     rule: &Rule<F>,
     place: u32,
 ) -> Result<u32, Stop>
-    ghost answers: { ℕ → ℕ }
     requires rule { IsRule F.pre F.post rule.now }
     requires cap { rule.now.cap ≤ most_outputs }
-    requires answers { IsAnsweredBy (F.post rule.now.closure) answers }
     requires session { mixer.old.held.session ≡ session.now }
     requires place { place < length mixer.old.held.batches }
     requires unsent { HasSentNoneFrom mixer.old place }
-    ensures written { Writes (O.state output.old) (O.state output.new)
+    ensures written { (answers : ℕ → ℕ) → IsAnsweredBy (F.post rule.now.closure) answers
+        → Writes (O.state output.old) (O.state output.new)
         (place_records session.now mixer.old.seed answers mixer.old.held.batches place)
         (result_err result) }
-    ensures count { IfOk result (λ count. count ≡ place_count answers mixer.old.held.batches place) }
+    ensures count { (answers : ℕ → ℕ) → IsAnsweredBy (F.post rule.now.closure) answers
+        → IfOk result (λ count. count ≡ place_count answers mixer.old.held.batches place) }
     ensures within { IfOk result (λ count. count ≤ most_outputs) }
     ensures held { OnOk result (mixer.new.held ≡ mixer.old.held) }
     ensures seed { OnOk result (mixer.new.seed ≡ mixer.old.seed) }
@@ -101,16 +101,16 @@ fn send_batches<F: Fn(u32) -> u32, O: Sink>(
     mixer: &mut Mixer,
     rule: &Rule<F>,
 ) -> Result<u32, Stop>
-    ghost answers: { ℕ → ℕ }
     requires rule { IsRule F.pre F.post rule.now }
     requires cap { rule.now.cap ≤ most_outputs }
-    requires answers { IsAnsweredBy (F.post rule.now.closure) answers }
     requires session { mixer.old.held.session ≡ session.now }
     requires unsent { HasSentNoneFrom mixer.old 0 }
-    ensures written { Writes (O.state output.old) (O.state output.new)
+    ensures written { (answers : ℕ → ℕ) → IsAnsweredBy (F.post rule.now.closure) answers
+        → Writes (O.state output.old) (O.state output.new)
         (held_records session.now mixer.old.seed answers mixer.old.held.batches)
         (result_err result) }
-    ensures count { IfOk result (λ count. count ≡ sent_count answers mixer.old.held.batches) }
+    ensures count { (answers : ℕ → ℕ) → IsAnsweredBy (F.post rule.now.closure) answers
+        → IfOk result (λ count. count ≡ sent_count answers mixer.old.held.batches) }
     ensures held { OnOk result (mixer.new.held ≡ mixer.old.held) }
 {
     let mut sent = 0;
@@ -126,17 +126,17 @@ fn send<F: Fn(u32) -> u32, O: Sink>(
     intake: &mut Intake,
     rule: &Rule<F>,
 ) -> Result<u32, Stop>
-    ghost answers: { ℕ → ℕ }
     requires rule { IsRule F.pre F.post rule.now }
     requires cap { rule.now.cap ≤ most_outputs }
-    requires answers { IsAnsweredBy (F.post rule.now.closure) answers }
     requires session { intake.old.mixer.held.session ≡ intake.old.session }
     requires unsent { HasSentNoneFrom intake.old.mixer 0 }
-    ensures written { Writes (O.state output.old) (O.state output.new)
+    ensures written { (answers : ℕ → ℕ) → IsAnsweredBy (F.post rule.now.closure) answers
+        → Writes (O.state output.old) (O.state output.new)
         (header_record intake.old.session
         ++ held_records intake.old.session intake.old.mixer.seed answers intake.old.mixer.held.batches)
         (result_err result) }
-    ensures count { IfOk result (λ count. count ≡ sent_count answers intake.old.mixer.held.batches) }
+    ensures count { (answers : ℕ → ℕ) → IsAnsweredBy (F.post rule.now.closure) answers
+        → IfOk result (λ count. count ≡ sent_count answers intake.old.mixer.held.batches) }
     ensures held { OnOk result (intake.new.mixer.held ≡ intake.old.mixer.held) }
     ensures packets { intake.new.packets ≡ intake.old.packets }
 {
