@@ -1,3 +1,4 @@
 pub mod RecordsRead
 pub mod ReaderAnswers
 pub mod WalkSteps
+pub mod WalksRead

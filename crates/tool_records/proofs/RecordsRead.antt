@@ -43,7 +43,7 @@ ReadsRecords-begun goes_on session bytes list reader a b c h on r records offset
 }
 
 -- no record is empty
-none_empty : (session : Option SessionData) (offset : ℕ) → HasNoRecord session offset []
+pub none_empty : (session : Option SessionData) (offset : ℕ) → HasNoRecord session offset []
 none_empty None offset = λ session more h e.
     absurd (omega (arith, ap length e, length-append (header_record session) more, length-header_record session h))
 none_empty (Some session) offset = λ item more place e.

@@ -1,5 +1,4 @@
 pub mod Reading
 pub mod ReadsRecords
-pub mod Refused
 pub mod Walk
 pub mod steps

@@ -1,11 +1,12 @@
 //! How a run ends whose input is refused.
 ghost use Rattle.std.specs.Prelude.{◌≡◌, ◌++◌, string_bytes, codes, IfOk};
+ghost use Rattle.tool_run.specs.declared.status.Status.TheVariants as statuses;
+ghost use Rattle.tool_run.specs.Attempt.{IsOfEnding};
 ghost use Rattle.tool_records.specs.Reading.{field_word, tag_word, place_line, refusal_line, refusal_status};
-ghost use Rattle.tool_records.specs.Refused.{EndsAs};
 
 use bats_model::{HeaderField, ReadEnd};
 use std::alloc::{AllocError, Global};
-use tool_run::{Finish, Status, Stop};
+use tool_run::{Finish, Status, refuse};
 
 // The word of a header's field.
 fn field_text(field: HeaderField) -> &'static str
@@ -19,13 +20,6 @@ fn field_text(field: HeaderField) -> &'static str
         HeaderField::SymbolSize => "t",
         HeaderField::Length => "length",
     }
-}
-
-// The notes line of a refused place.
-fn place_text(alloc: Global, at: u64, reason: &str) -> Result<String, AllocError>
-    ensures { IfOk result (λ line. string_bytes line ≡ place_line at reason.now) }
-{
-    format!(in alloc; "bats: input at={at} {reason}\n")
 }
 
 // The reason of a header whose field breaks its rule.
@@ -45,44 +39,31 @@ fn tag_reason(alloc: Global, byte: u8) -> Result<String, AllocError>
     format!(in alloc; "bad-tag byte={text}")
 }
 
-// The notes line of a refusal of the input, with its line feed.
-fn refusal_text(alloc: Global, end: ReadEnd) -> Result<String, AllocError>
-    ensures { IfOk result (λ line. string_bytes line ≡ refusal_line end) }
+// How a run ends whose input is refused at this offset for this reason.
+fn refused_at(alloc: Global, at: u64, reason: &str) -> Result<Finish, AllocError>
+    ensures status { IfOk result (λ finish. finish.status ≡ statuses.Input) }
+    ensures line { IfOk result (λ finish. string_bytes finish.line ≡ place_line at reason.now) }
 {
-    match end {
-        ReadEnd::Memory => String::from_str(alloc, "bats: out of memory\n"),
-        ReadEnd::ReadFault => String::from_str(alloc, "bats: read fault\n"),
-        ReadEnd::NoHeader => place_text(alloc, 0, "no-header"),
-        ReadEnd::BadHeader { field } => place_text(alloc, 0, field_reason(alloc, field)?.as_str()),
-        ReadEnd::BadTag { at, byte } => place_text(alloc, at, tag_reason(alloc, byte)?.as_str()),
-        ReadEnd::OtherSession { at } => place_text(alloc, at, "other-session"),
-        ReadEnd::Truncated { at } => place_text(alloc, at, "truncated"),
-        ReadEnd::TooManyRecords => String::from_str(alloc, "bats: limit records\n"),
-    }
+    let line = format!(in alloc; "bats: input at={at} {reason}\n")?;
+    Ok(Finish {
+        status: Status::Input,
+        line,
+    })
 }
 
-// The status of a refusal of the input.
-fn status_of_refusal(end: ReadEnd) -> Status
-    ensures { result ≡ refusal_status end }
+/// How a run ends whose input is refused so, as a walk tells it.
+pub fn refused(alloc: Global, end: ReadEnd) -> Result<Finish, AllocError>
+    requires { IsOfEnding (refusal_status end) }
+    ensures status { IfOk result (λ finish. finish.status ≡ refusal_status end) }
+    ensures line { IfOk result (λ finish. string_bytes finish.line ≡ refusal_line end) }
 {
     match end {
-        ReadEnd::Memory => Status::Memory,
-        ReadEnd::ReadFault => Status::ReadFault,
-        ReadEnd::TooManyRecords => Status::Limit,
-        _ => Status::Input,
-    }
-}
-
-/// How a run ends whose reading ended so.
-pub fn refused(alloc: Global, end: ReadEnd) -> Result<Finish, Stop>
-    ensures { EndsAs end result }
-{
-    match end {
-        ReadEnd::Memory => Err(Stop::Memory),
-        ReadEnd::ReadFault => Err(Stop::ReadFault),
-        _ => Ok(Finish {
-            status: status_of_refusal(end),
-            line: refusal_text(alloc, end)?,
-        }),
+        ReadEnd::NoHeader => refused_at(alloc, 0, "no-header"),
+        ReadEnd::BadHeader { field } => refused_at(alloc, 0, field_reason(alloc, field)?.as_str()),
+        ReadEnd::BadTag { at, byte } => refused_at(alloc, at, tag_reason(alloc, byte)?.as_str()),
+        ReadEnd::OtherSession { at } => refused_at(alloc, at, "other-session"),
+        ReadEnd::Truncated { at } => refused_at(alloc, at, "truncated"),
+        ReadEnd::TooManyRecords => refuse(alloc, Status::Limit, "bats: limit records\n"),
+        ReadEnd::Memory | ReadEnd::ReadFault => unreachable!(),
     }
 }
