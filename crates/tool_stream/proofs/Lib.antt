@@ -1,2 +1,3 @@
-pub mod ShowLines
 pub mod ShowSteps
+pub mod ShowLines
+pub mod KeptItems

@@ -60,7 +60,10 @@ fn keep<C: Ledger, L: Ledger>(
         .mixer
         .offer(packet, counters.coef_steps, counters.steps)
     {
-        Ok(_) => Ok(Taken::GoesOn),
+        Ok(_) => {
+            let _few = intake.mixer.held().rows();
+            Ok(Taken::GoesOn)
+        }
         Err(HeldEnd::Full) => Ok(Taken::Halts),
         Err(HeldEnd::Memory) => Err(Stop::Memory),
     }

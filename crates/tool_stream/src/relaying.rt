@@ -5,7 +5,7 @@ ghost use Rattle.bats_model.specs.declared.item.Item.{Item};
 ghost use Rattle.tool_run.specs.Attempt.{Attempts};
 ghost use Rattle.tool_run.specs.declared.status.Status.TheVariants as statuses;
 ghost use Rattle.tool_stream.specs.Relay.{relay_line, relay_promise};
-ghost use Rattle.tool_stream.specs.steps.Relaying.{IsFullAs, SendsAs};
+ghost use Rattle.tool_stream.specs.steps.Relaying.{SendsAs};
 ghost use Rattle.tool_stream.specs.steps.Keeping.{StandsForItems};
 
 use crate::keeping::{Counters, Intake, Keeper};
@@ -51,13 +51,6 @@ fn send_all<O: Sink>(
     })
 }
 
-// How the run ends to which a packet came that would be kept when no more may be.
-fn is_full(alloc: Global) -> Result<Finish, Stop>
-    ensures { IsFullAs result }
-{
-    Ok(refuse(alloc, Status::Limit, "bats: limit kept\n")?)
-}
-
 /// Does `relay`: keeps the new packets of the input, and then writes the header and, of each held batch, numbers rising,
 /// as many sums of its kept packets as the rule says: `count`, at most 64, or with `extra` its rank and `count` more.
 pub fn relay<S: Source, O: Sink, C: Ledger, L: Ledger>(
@@ -78,10 +71,9 @@ pub fn relay<S: Source, O: Sink, C: Ledger, L: Ledger>(
 {
     let mut keeper = Keeper::new(seed);
     let mut counters = Counters { coef_steps, steps };
-    match walk(alloc, input, &mut keeper, output, &mut counters) {
-        Ok(WalkEnd::Whole) => send_all(alloc, extra, count, keeper.into_intake(), output),
-        Ok(WalkEnd::Refused(end)) => refused(alloc, end),
-        Ok(WalkEnd::Halted) => is_full(alloc),
-        Err(stop) => Err(stop),
+    match walk(alloc, input, &mut keeper, output, &mut counters)? {
+        WalkEnd::Whole => send_all(alloc, extra, count, keeper.into_intake(), output),
+        WalkEnd::Refused(end) => Ok(refused(alloc, end)?),
+        WalkEnd::Halted => Ok(refuse(alloc, Status::Limit, "bats: limit kept\n")?),
     }
 }

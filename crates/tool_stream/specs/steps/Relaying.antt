@@ -1,4 +1,4 @@
--- How a relay ends that has taken in all packets, or stopped at one too many.
+-- How a relay ends that has taken in all packets.
 use Rattle.std.specs.Prelude.{ℕ, ◌≡◌, Bool, List, None, Some, Result, Ok, Err, string_bytes}
 use Rattle.bats_io.specs.Streams.{OutputState}
 use Rattle.bats_model.specs.Session.{SessionData}
@@ -6,11 +6,9 @@ use Rattle.bats_model.specs.PacketFile.{packets_of}
 use Rattle.bats_model.specs.declared.item.Item.{Item}
 use Rattle.tool_run.specs.declared.finish.Finish.{Finish}
 use Rattle.tool_run.specs.declared.stop.Stop.{Stop}
-use Rattle.tool_run.specs.declared.stop.Stop.TheVariants as stops
 use Rattle.tool_run.specs.declared.status.Status.TheVariants as statuses
-use Rattle.tool_run.specs.Ending.{Ending}
 use Rattle.tool_run.specs.Writes.{Writes}
-use Rattle.tool_stream.specs.Relay.{AreHeld, output_count, relayed_ending, kept_limit_line}
+use Rattle.tool_stream.specs.Relay.{AreHeld, output_count, relayed_ending}
 
 -- what is sent of all items was written, and the finish is that of its ending
 pub record SendsRight (seed : List ℕ) (extra : Bool) (count : ℕ) (session : SessionData) (list : List Item) (before after : OutputState)
@@ -31,12 +29,3 @@ pub record CannotSend (seed : List ℕ) (extra : Bool) (count : ℕ) (session : 
 abbrev pub SendsAs : List ℕ → Bool → ℕ → SessionData → List Item → OutputState → OutputState → Result Finish Stop → Type 0
 SendsAs seed extra count session list before after (Ok finish) = SendsRight seed extra count session list before after finish
 SendsAs seed extra count session list before after (Err stop) = CannotSend seed extra count session list before after stop
-
--- a packet came that would be kept when no more may be
-pub record IsFull (finish : Finish) : Type 0 where
-  pub status : finish.status ≡ statuses.Limit
-  pub line : string_bytes finish.line ≡ kept_limit_line
-
-abbrev pub IsFullAs : Result Finish Stop → Type 0
-IsFullAs (Ok finish) = IsFull finish
-IsFullAs (Err stop) = stop ≡ stops.Memory
