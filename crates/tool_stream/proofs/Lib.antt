@@ -1,3 +1,4 @@
-pub mod ShowSteps
 pub mod ShowLines
+pub mod ShowSteps
 pub mod KeptItems
+pub mod SentBatches

@@ -54,7 +54,7 @@ fn send_batch<O: Sink>(
         (result_err result) }
     ensures sent { OnOk result (HasSentOf number count mixer.old mixer.new) }
 {
-    'outputs: for _ in 0..count {
+    'outputs: while mixer.sent(number) < count {
         send_output(output, session, mixer, number)?;
     }
     Ok(())
