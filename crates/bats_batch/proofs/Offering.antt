@@ -49,6 +49,15 @@ counted m t entries lent seen old new basis view same h =
     let long : length lent ≡ length entries = ap (λ (es : List Entry). length es) same in
     omega (arith, few, size, long, h)
 
+-- and so by at most one step a kept packet
+pub counted_of_rank : (m t : ℕ) (entries lent : List Entry) (seen : BasisData) (old new : ℕ) → basis_of m t entries ≡ seen → lent ≡ entries
+    → new ≤ old + length lent → new ≤ old + length seen.kept
+counted_of_rank m t entries lent seen old new view same h =
+    let kept : length (offered_packets entries) ≡ length seen.kept = ap (λ (d : BasisData). length d.kept) view in
+    let packets : length (offered_packets entries) ≡ length entries = length-map entries (λ e. e.packet) in
+    let long : length lent ≡ length entries = ap (λ (es : List Entry). length es) same in
+    omega (arith, kept, packets, long, h)
+
 module _ (m t size : ℕ) (entries lent : List Entry) (seen : BasisData) (packet : Packet) (reduced : List ℕ) (is : IsReduced m t size entries lent seen packet reduced) where
   sized : IsSized m t packet
   sized = record {

@@ -102,6 +102,8 @@ impl Basis {
         ensures same { self.new ≡ self.old }
         ensures coef_steps { coef_steps.new ≤ coef_steps.old + self.old.m }
         ensures steps { steps.new ≤ steps.old + self.old.m }
+        ensures coef_steps_of_rank { coef_steps.new ≤ coef_steps.old + length self.old.kept }
+        ensures steps_of_rank { steps.new ≤ steps.old + length self.old.kept }
         ensures coef_steps_rise { coef_steps.old ≤ coef_steps.new }
         ensures steps_rise { steps.old ≤ steps.new }
     {
@@ -142,6 +144,8 @@ impl Basis {
             → StandsForBatch packet.now.batch (packets ++ packet.now ∷ []) self.new) }
         ensures coef_steps { coef_steps.new ≤ coef_steps.old + self.old.m }
         ensures steps { steps.new ≤ steps.old + self.old.m }
+        ensures coef_steps_of_rank { coef_steps.new ≤ coef_steps.old + length self.old.kept + 1 }
+        ensures steps_of_rank { steps.new ≤ steps.old + length self.old.kept + 1 }
         ensures coef_steps_rise { coef_steps.old ≤ coef_steps.new }
         ensures steps_rise { steps.old ≤ steps.new }
     {

@@ -112,6 +112,8 @@ impl Held {
             × IsTaken (kept_at self.old.batches packet.now.batch) packet.now Taken.Kept)) }
         ensures coef_steps { coef_steps.new ≤ coef_steps.old + self.old.session.m }
         ensures steps { steps.new ≤ steps.old + self.old.session.m }
+        ensures coef_steps_of_rank { coef_steps.new ≤ coef_steps.old + length (kept_at self.old.batches packet.now.batch) + 1 }
+        ensures steps_of_rank { steps.new ≤ steps.old + length (kept_at self.old.batches packet.now.batch) + 1 }
         ensures coef_steps_rise { coef_steps.old ≤ coef_steps.new }
         ensures steps_rise { steps.old ≤ steps.new }
     {

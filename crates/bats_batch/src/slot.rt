@@ -81,6 +81,8 @@ fn offer_within<C: Ledger, L: Ledger>(
         → (IsFalse has_room × IsTaken basis.old.kept packet.now Taken.Kept)) }
     ensures coef_steps { coef_steps.new ≤ coef_steps.old + basis.old.m }
     ensures steps { steps.new ≤ steps.old + basis.old.m }
+    ensures coef_steps_of_rank { coef_steps.new ≤ coef_steps.old + length basis.old.kept + 1 }
+    ensures steps_of_rank { steps.new ≤ steps.old + length basis.old.kept + 1 }
     ensures coef_steps_rise { coef_steps.old ≤ coef_steps.new }
     ensures steps_rise { steps.old ≤ steps.new }
 {
@@ -114,6 +116,8 @@ fn offer_at<C: Ledger, L: Ledger>(
         → (IsFalse has_room × IsTaken (kept_at (batches_in slots.old) packet.now.batch) packet.now Taken.Kept)) }
     ensures coef_steps { coef_steps.new ≤ coef_steps.old + session.now.m }
     ensures steps { steps.new ≤ steps.old + session.now.m }
+    ensures coef_steps_of_rank { coef_steps.new ≤ coef_steps.old + length (kept_at (batches_in slots.old) packet.now.batch) + 1 }
+    ensures steps_of_rank { steps.new ≤ steps.old + length (kept_at (batches_in slots.old) packet.now.batch) + 1 }
     ensures coef_steps_rise { coef_steps.old ≤ coef_steps.new }
     ensures steps_rise { steps.old ≤ steps.new }
 {
@@ -153,6 +157,8 @@ fn open_at<C: Ledger, L: Ledger>(
         → (IsFalse has_room × IsTaken (kept_at (batches_in slots.old.items) packet.now.batch) packet.now Taken.Kept)) }
     ensures coef_steps { coef_steps.new ≤ coef_steps.old + session.now.m }
     ensures steps { steps.new ≤ steps.old + session.now.m }
+    ensures coef_steps_of_rank { coef_steps.new ≤ coef_steps.old + length (kept_at (batches_in slots.old.items) packet.now.batch) + 1 }
+    ensures steps_of_rank { steps.new ≤ steps.old + length (kept_at (batches_in slots.old.items) packet.now.batch) + 1 }
     ensures coef_steps_rise { coef_steps.old ≤ coef_steps.new }
     ensures steps_rise { steps.old ≤ steps.new }
 {
@@ -191,6 +197,8 @@ pub(crate) fn offer_to<C: Ledger, L: Ledger>(
         → (IsFalse has_room × IsTaken (kept_at (batches_in slots.old.items) packet.now.batch) packet.now Taken.Kept)) }
     ensures coef_steps { coef_steps.new ≤ coef_steps.old + session.now.m }
     ensures steps { steps.new ≤ steps.old + session.now.m }
+    ensures coef_steps_of_rank { coef_steps.new ≤ coef_steps.old + length (kept_at (batches_in slots.old.items) packet.now.batch) + 1 }
+    ensures steps_of_rank { steps.new ≤ steps.old + length (kept_at (batches_in slots.old.items) packet.now.batch) + 1 }
     ensures coef_steps_rise { coef_steps.old ≤ coef_steps.new }
     ensures steps_rise { steps.old ≤ steps.new }
 {

@@ -1,12 +1,12 @@
 -- Each command keeps what the run of any command rests on.
 use Rattle.std.proofs.Common.{Option, None, Some}
 use Rattle.tool_run.specs.Promise.{Keeps}
-use Rattle.tool_run.proofs.Begun.{IsBegun-whole, reads_nothing-keeps}
+use Rattle.tool_run.proofs.Begun.{reads_nothing-keeps}
 use Rattle.bats_words.specs.declared.command.Command.{Command}
 use Rattle.bats_words.specs.declared.command.Command.TheVariants as commands
 use Rattle.bats_words.specs.Options.{source_options}
-use Rattle.tool_sink.specs.Sink.{IsSinkEnding}
 use Rattle.bats_tool.specs.Promises.{promise_of, usage_ending}
+use Rattle.tool_sink.proofs.SinkKept.{sink_promise-keeps}
 use Rattle.tool_source.proofs.Endings.{source_promise-keeps}
 use Rattle.tool_stream.proofs.ShowLines.{show_promise-keeps}
 
@@ -14,5 +14,5 @@ pub promise_of-keeps : (command : Option Command) → Keeps (promise_of command)
 promise_of-keeps None = reads_nothing-keeps usage_ending
 promise_of-keeps (Some (commands.Source m t table systematic seed first batches)) =
     source_promise-keeps (source_options m t table systematic seed first batches)
-promise_of-keeps (Some (commands.Sink workers both)) = record { whole = λ input ending e. IsBegun-whole (IsSinkEnding both) input ending e }
+promise_of-keeps (Some (commands.Sink workers both)) = sink_promise-keeps both
 promise_of-keeps (Some commands.Show) = show_promise-keeps

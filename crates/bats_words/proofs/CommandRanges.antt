@@ -1,16 +1,24 @@
--- The ranges that the values of a command are held to.
-use Rattle.std.proofs.Common.{ℕ, ◌≡◌, ◌≤◌, Bool, ◌&&◌, cond, List, subst, Option, None, Some, arith, rules}
+-- The values of the command that words are stand in their ranges.
+use Rattle.std.proofs.Common.{ℕ, ◌≡◌, ◌≤◌, ◌<◌, ◌*◌, Bool, true, false, ◌&&◌, cond, List, [], ◌∷◌, length, sym, ◌∙◌, subst, Option, None, Some, Result, Ok, Err, arith, rules}
 use Rattle.std.proofs.lemmas.Bool.Decides.{nat_tests}
-use Rattle.std.specs.Prelude.{codes, nat_le}
+use Rattle.std.specs.Prelude.{codes, nat_le, IfSome}
 use Rattle.std.specs.Option.{option_and_then}
+use Rattle.std.specs.Result.{result_ok}
 use Rattle.std.proofs.lemmas.Option.{cond_some, option_and_then_some}
+use Rattle.std.proofs.lemmas.List.Elements.{All-from_get_or}
 use Rattle.std.specs.Str.Parse.{digits_value}
+use Rattle.hex.specs.Hex.{decode_sized}
+use Rattle.hex.specs.declared.error.FromHexError.{FromHexError}
+use Rattle.hex.proofs.HexLemmas.{decode_sized-ok, decode_sized-twice, decode_of-ok}
 use Rattle.bats_words.specs.declared.command.Command.{Command}
 use Rattle.bats_words.specs.declared.command.Command.TheVariants.{Source, Relay, Sink, Show}
-use Rattle.bats_words.specs.Options.{InRanges}
+use Rattle.bats_words.specs.Options.{IsSeed, InRanges}
+use Rattle.bats_words.specs.WordItems.{KnownNames, read_items, value_of, is_there}
 use Rattle.bats_words.specs.WordValues.{number_in, is_number_word, rule_of, seed_of}
-use Rattle.bats_words.specs.Words.{command_of, read_or, source_of, relay_of, sink_of, show_of}
-use Rattle.bats_words.proofs.EachCommand.{command_of-keeps}
+use Rattle.bats_words.specs.Words.{command_of, read_by, read_or, source_of, source_names, relay_of, relay_names, sink_of, sink_names, show_of, show_names}
+use Rattle.bats_words.proofs.CommandWords.{Builder}
+
+-- ---- values
 
 in_range : (b : Bool) (low v high n : ℕ) → cond (b && nat_le low v && nat_le v high) (Some v) None ≡ Some n → (low ≤ n) × (n ≤ high)
 in_range b low v high n h =
@@ -19,7 +27,7 @@ in_range b low v high n h =
     let r : v ≤ high = grind (arith, nat_tests, rules, w.0) in
     (omega (arith, w.1), omega (arith, w.1))
 
-pub number_in-range : (low high : ℕ) (word : List ℕ) (n : ℕ) → number_in low high word ≡ Some n → (low ≤ n) × (n ≤ high)
+number_in-range : (low high : ℕ) (word : List ℕ) (n : ℕ) → number_in low high word ≡ Some n → (low ≤ n) × (n ≤ high)
 unfolding number_in
 number_in-range low high word n h = in_range (is_number_word word) low (digits_value 10 word) high n h
 
@@ -33,10 +41,30 @@ option_range : (low high n : ℕ) (word : Option (List ℕ)) → option_and_then
 option_range low high n None h = cc
 option_range low high n (Some word) h = number_in-range low high word n h
 
+ok_of : (r : Result (List ℕ) FromHexError) (x : List ℕ) → result_ok r ≡ Some x → r ≡ Ok x
+ok_of (Ok y) x h = cc
+ok_of (Err e) x h = cc
+
+seed_of-seed : (word seed : List ℕ) → seed_of word ≡ Some seed → IsSeed seed
+unfolding seed_of
+seed_of-seed word seed h =
+    let ok : decode_sized word 16 ≡ Ok seed = ok_of (decode_sized word 16) seed h in
+    let size : length word ≡ 2 * 16 = decode_sized-ok word 16 seed ok in
+    let whole = decode_of-ok word seed (sym (decode_sized-twice word 16 size) ∙ ok) in
+    record { size = omega (arith, size, whole.2); bytes = All-from_get_or (λ byte. byte < 256) seed 0 (λ i within. whole.3 i) }
+
+option_seed : (word : Option (List ℕ)) (seed : List ℕ) → option_and_then seed_of word ≡ Some seed → IsSeed seed
+option_seed None seed h = cc
+option_seed (Some word) seed h = seed_of-seed word seed h
+
 -- ---- each command
 
-source_of-ranges : (value : List ℕ → Option (List ℕ)) (flag : List ℕ → Bool) (command : Command)
-    → source_of value flag ≡ Some command → InRanges command
+-- each command that the builder gives has its values in their ranges
+abbrev pub IsWithin : Builder → Type 0
+IsWithin build = (value : List ℕ → Option (List ℕ)) (flag : List ℕ → Bool) (command : Command)
+    → build value flag ≡ Some command → InRanges command
+
+pub source_of-ranges : IsWithin source_of
 unfolding source_of
 source_of-ranges value flag command h =
     option_and_then_some _ (option_and_then (number_in 1 32) (value (codes "--m"))) command h (λ m m_is rest.
@@ -51,18 +79,20 @@ source_of-ranges value flag command h =
     let rb = option_range 0 32767 batches (value (codes "--batches")) batches_is in
     let rtab = read_or-range 0 0 1 table (value (codes "--table")) (omega arith) (omega arith) table_is in
     let rf = read_or-range 0 0 4000000000 first (value (codes "--from")) (omega arith) (omega arith) first_is in
-    subst (λ (c : Command). InRanges c) same (record {
-      m_low = rm.0;
-      m_high = rm.1;
-      t_low = rt.0;
-      t_high = rt.1;
-      table_high = omega (arith, rtab.1);
-      first_high = rf.1;
-      batches_high = rb.1;
-    })))))))
+    subst (λ (c : Command). InRanges c) same (
+      record {
+        m_low = rm.0;
+        m_high = rm.1;
+        t_low = rt.0;
+        t_high = rt.1;
+        table_high = omega (arith, rtab.1);
+        first_high = rf.1;
+        batches_high = rb.1;
+      },
+      option_seed (value (codes "--seed")) seed seed_is,
+    )))))))
 
-relay_of-ranges : (value : List ℕ → Option (List ℕ)) (flag : List ℕ → Bool) (command : Command)
-    → relay_of value flag ≡ Some command → InRanges command
+pub relay_of-ranges : IsWithin relay_of
 unfolding relay_of
 relay_of-ranges value flag command h =
     option_and_then_some _ (option_and_then seed_of (value (codes "--seed"))) command h (λ seed seed_is rest.
@@ -70,10 +100,9 @@ relay_of-ranges value flag command h =
     option_and_then_some _ (option_and_then (number_in 0 64) (value (codes "--count"))) command rest' (λ count count_is rest2.
     let same : Relay seed extra count ≡ command = cc in
     let r = option_range 0 64 count (value (codes "--count")) count_is in
-    subst (λ (c : Command). InRanges c) same (record { high = r.1 }))))
+    subst (λ (c : Command). InRanges c) same (record { high = r.1 }, option_seed (value (codes "--seed")) seed seed_is))))
 
-sink_of-ranges : (value : List ℕ → Option (List ℕ)) (flag : List ℕ → Bool) (command : Command)
-    → sink_of value flag ≡ Some command → InRanges command
+pub sink_of-ranges : IsWithin sink_of
 unfolding sink_of
 sink_of-ranges value flag command h =
     option_and_then_some _ (read_or 1 (number_in 1 64) (value (codes "--workers"))) command h (λ workers workers_is rest.
@@ -81,16 +110,40 @@ sink_of-ranges value flag command h =
     let r = read_or-range 1 1 64 workers (value (codes "--workers")) (omega arith) (omega arith) workers_is in
     subst (λ (c : Command). InRanges c) same (record { low = r.0; high = r.1 }))
 
-show_of-ranges : (value : List ℕ → Option (List ℕ)) (flag : List ℕ → Bool) (command : Command)
-    → show_of value flag ≡ Some command → InRanges command
+pub show_of-ranges : IsWithin show_of
 unfolding show_of
 show_of-ranges value flag command h =
     let same : Show ≡ command = cc in
     subst (λ (c : Command). InRanges c) same tt
 
--- ---- all of them
+-- ---- every command
 
--- each command has its values in their ranges
+read_by-ranges : (known : KnownNames) (build : Builder) → IsWithin build → (words : List (List ℕ)) (command : Command)
+    → read_by known build words ≡ Some command → InRanges command
+read_by-ranges known build within words command h =
+    option_and_then_some _ (read_items known words) command h (λ items items_is rest.
+    within (λ name. value_of name items) (λ name. is_there name items) command rest)
+
+-- so has what the code reads by it
+pub read_by-within : (known : KnownNames) (build : Builder) → IsWithin build → (words : List (List ℕ)) (result : Option Command)
+    → result ≡ read_by known build words → IfSome result InRanges
+read_by-within known build within words None h = tt
+read_by-within known build within words (Some command) h = read_by-ranges known build within words command (sym h)
+
+by_choice : (b : Bool) (o p : Option Command) (command : Command) → (o ≡ Some command → InRanges command)
+    → (p ≡ Some command → InRanges command) → cond b o p ≡ Some command → InRanges command
+by_choice true o p command first other h = first h
+by_choice false o p command first other h = other h
+
+no_command : (command : Command) → None ≡ Some command → InRanges command
+no_command command h = cc
+
+-- the command that words are has its values in their ranges
 pub command_of-ranges : (words : List (List ℕ)) (command : Command) → command_of words ≡ Some command → InRanges command
-command_of-ranges words command h =
-    command_of-keeps (λ (c : Command). InRanges c) source_of-ranges relay_of-ranges sink_of-ranges show_of-ranges words command h
+unfolding command_of
+command_of-ranges [] command h = cc
+command_of-ranges (name ∷ words) command h =
+    by_choice _ _ _ command (read_by-ranges source_names source_of source_of-ranges words command) (
+    by_choice _ _ _ command (read_by-ranges relay_names relay_of relay_of-ranges words command) (
+    by_choice _ _ _ command (read_by-ranges sink_names sink_of sink_of-ranges words command) (
+    by_choice _ _ _ command (read_by-ranges show_names show_of show_of-ranges words command) (no_command command)))) h

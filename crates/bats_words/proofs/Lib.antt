@@ -4,4 +4,3 @@ pub mod WordLookups
 pub mod WordNumbers
 pub mod WordSplits
 pub mod CommandRanges
-pub mod EachCommand

@@ -1,5 +1,5 @@
 -- What the commands are asked for.
-use Rattle.std.specs.Prelude.{ℕ, ◌≤◌, ◌<◌, Bool, List}
+use Rattle.std.specs.Prelude.{ℕ, ◌≡◌, ◌≤◌, ◌<◌, Bool, List, All, length}
 use Rattle.bats_words.specs.declared.command.Command.{Command}
 use Rattle.bats_words.specs.declared.command.Command.TheVariants as commands
 use Rattle.bats_words.specs.declared.source_options.SourceOptions.{SourceOptions}
@@ -19,6 +19,11 @@ abbrev pub source_options : ℕ → ℕ → ℕ → Bool → List ℕ → ℕ �
 source_options m t table systematic seed first batches =
     record { m = m; t = t; table = table; systematic = systematic; seed = seed; first = first; batches = batches }
 
+-- a seed has 16 bytes
+pub record IsSeed (seed : List ℕ) : Type 0 where
+  pub size : length seed ≡ 16
+  pub bytes : All (λ byte. byte < 256) seed
+
 -- the number of workers is in the range that words are held to
 pub record HasWorkers (workers : ℕ) : Type 0 where
   pub low : 1 ≤ workers
@@ -28,9 +33,10 @@ pub record HasWorkers (workers : ℕ) : Type 0 where
 pub record HasCount (count : ℕ) : Type 0 where
   pub high : count ≤ 64
 
--- the numbers of a command are in the ranges that words are held to
+-- the values of a command are in the ranges that words are held to
 abbrev pub InRanges : Command → Type 0
-InRanges (commands.Source m t table systematic seed first batches) = HasRanges (source_options m t table systematic seed first batches)
-InRanges (commands.Relay seed extra count) = HasCount count
+InRanges (commands.Source m t table systematic seed first batches) =
+    HasRanges (source_options m t table systematic seed first batches) × IsSeed seed
+InRanges (commands.Relay seed extra count) = HasCount count × IsSeed seed
 InRanges (commands.Sink workers both) = HasWorkers workers
 InRanges commands.Show = Unit {0}

@@ -1,5 +1,6 @@
 //! Which command the words of a command line are.
-ghost use Rattle.std.specs.Prelude.{◌≡◌, map, string_bytes};
+ghost use Rattle.std.specs.Prelude.{◌≡◌, map, string_bytes, IfSome};
+ghost use Rattle.bats_words.specs.Options.{InRanges};
 ghost use Rattle.bats_words.specs.WordItems.{is_among};
 ghost use Rattle.bats_words.specs.WordLookup.{word_after};
 ghost use Rattle.bats_words.specs.Words.{command_of, read_by, source_of, source_names, relay_of, relay_names};
@@ -13,10 +14,11 @@ use crate::command::Command;
 use crate::words::items::{Names, are_read, has};
 use crate::words::options::{number, number_or, rule, seed};
 
-/// The command that the words after the program's name are, if they are one.
+/// The command that the words after the program's name are, if they are one. Its values stand in their ranges.
 #[tactic(auto, unfolding(crate::specs::Words::command_of))]
 pub fn parse(words: &Vec<String>) -> Option<Command>
-    ensures { result ≡ command_of (map string_bytes words.now.items) }
+    ensures value { result ≡ command_of (map string_bytes words.now.items) }
+    ensures ranges { IfSome result InRanges }
 {
     let (name, rest) = words.split_first()?;
     match name.as_str() {

@@ -20,13 +20,13 @@ use Rattle.bats_format.proofs.JoinedFiles.{packets_of-append}
 use Rattle.bats_format.proofs.Refusals.{no_file_refused}
 use Rattle.bats_words.specs.declared.source_options.SourceOptions.{SourceOptions}
 use Rattle.tool_run.specs.declared.status.Status.TheVariants as statuses
-use Rattle.bats_words.specs.Options.{HasRanges}
+use Rattle.bats_words.specs.Options.{HasRanges, IsSeed}
 use Rattle.tool_source.specs.FileSession.{session_for}
 use Rattle.tool_run.specs.Ending.{Ending}
 use Rattle.tool_source.specs.Source.{source_ending, source_promise}
 use Rattle.tool_sink.specs.Sink.{SinkIsNotBuilt, IsSinkEnding, answer_ending}
 use Rattle.tool_laws.specs.GivesBack.{GivesBack}
-use Rattle.tool_laws.proofs.OneEnding.{refused}
+use Rattle.tool_laws.proofs.OneReading.{IsRefused-reading}
 use Rattle.tool_laws.proofs.SentPackets.{Sends, packets_for, AgreesWithAll-sent, IsFile-for, file_for}
 
 -- ---- packets with which a file agrees
@@ -83,7 +83,7 @@ gives_back session list input file both ending h a (inl k) =
     subst (GivesBack session (packets_of list) file) (sym k.ending_is)
     (GivesBack-answer both session (packets_of list) (packets_of k.list) file k.answer plain right a)
 gives_back session list input file both ending h a (inr (inl k)) =
-    absurd (no_file_refused session list input k.end h (refused input k.session k.list k.end k.reading))
+    absurd (no_file_refused session list input k.end h (IsRefused-reading input k.session k.list k.end k.reading))
 gives_back session list input file both ending h a (inr (inr k)) =
     inr (ap (λ (x : Ending). x.status) k.ending_is, not_all_plain session list input ending h k)
 
@@ -114,7 +114,8 @@ pub sent_of : (o : SourceOptions) (file : List ℕ) (sent : List Item) → HasRa
     → IsPacketFile (session_for o (length file)) sent (source_ending o file).output → packets_of sent ≡ packets_for o file
 sent_of o file sent ranges bytes k =
     let session = session_for o (length file) in
-    let h : Sends o file = record { ranges = ranges; seed = k.is_session.seed; seed_bytes = k.is_session.seed_bytes; bytes = bytes; symbols = k.is_session.symbols } in
+    let seed : IsSeed o.seed = record { size = k.is_session.seed; bytes = k.is_session.seed_bytes } in
+    let h : Sends o file = record { ranges = ranges; seed = seed; bytes = bytes; symbols = k.is_session.symbols } in
     let f = file_for o file h in
     ap packets_of (same_file session session sent f.list (source_ending o file).output k f.file).1 ∙ f.of_packets
 

@@ -1,6 +1,5 @@
-mod OneEnding
+mod OneReading
 mod SentPackets
-mod CommandSeeds
 mod GivenBack
 mod AllSymbols
 mod SourceAndSink

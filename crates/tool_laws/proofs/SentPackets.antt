@@ -7,7 +7,7 @@ use Rattle.std.proofs.lemmas.List.Elements.{All-nil, All-cons, All-append, All-h
 use Rattle.std.proofs.lemmas.List.FromFn.{length-map-range_with_len}
 use Rattle.std.proofs.lemmas.Nat.{mul-le}
 use Rattle.bats_model.specs.Bytes.{AreBytes}
-use Rattle.bats_model.specs.Session.{SessionData, IsSession, symbols_of}
+use Rattle.bats_model.specs.Session.{SessionData, IsSession, symbols_of, max_symbols}
 use Rattle.bats_model.specs.Batch.{batch_of}
 use Rattle.bats_model.specs.Coded.{coded_payload, unit_vector}
 use Rattle.bats_model.specs.Records.{header_record, packet_record}
@@ -22,7 +22,7 @@ use Rattle.bats_model.proofs.SymbolValues.{coded_payload-lt}
 use Rattle.bats_encoder.proofs.Agreements.{Agrees-coded, length-coded_payload}
 use Rattle.bats_words.specs.declared.source_options.SourceOptions.{SourceOptions}
 use Rattle.tool_run.specs.declared.status.Status.TheVariants as statuses
-use Rattle.bats_words.specs.Options.{HasRanges}
+use Rattle.bats_words.specs.Options.{HasRanges, IsSeed}
 use Rattle.tool_source.specs.FileSession.{session_for}
 use Rattle.tool_source.specs.Source.{source_output, packet_records, batch_records, coded_record, source_ending, source_promise}
 use Rattle.tool_run.specs.Ending.{Ending}
@@ -186,10 +186,9 @@ AgreesWithAll-sent session file first batches f = record {
 -- what `source` is asked for, and the file that it sends
 pub record Sends (options : SourceOptions) (file : List ℕ) : Type 0 where
   pub ranges : HasRanges options
-  pub seed : length options.seed ≡ 16
-  pub seed_bytes : AreBytes options.seed
+  pub seed : IsSeed options.seed
   pub bytes : AreBytes file
-  pub symbols : symbols_of (session_for options (length file)) ≤ 4096
+  pub symbols : symbols_of (session_for options (length file)) ≤ max_symbols
 
 pub IsSession-for : (o : SourceOptions) (file : List ℕ) → Sends o file → IsSession (session_for o (length file))
 IsSession-for o file h = record {
@@ -199,8 +198,8 @@ IsSession-for o file h = record {
   t_high = h.ranges.t_high;
   table = h.ranges.table_high;
   symbols = h.symbols;
-  seed = h.seed;
-  seed_bytes = h.seed_bytes;
+  seed = h.seed.size;
+  seed_bytes = h.seed.bytes;
 }
 
 pub IsFile-for : (o : SourceOptions) (file : List ℕ) → AreBytes file → IsFile (session_for o (length file)) file
@@ -226,7 +225,7 @@ output_for o file h =
     ap (λ (x : Ending). x.output) (source_ending-done o file h.symbols)
     ∙ ap (λ (x : List ℕ). header_record (session_for o (length file)) ++ x) (sym (records-sent (session_for o (length file)) file o.first o.batches))
 
-pub status_for : (o : SourceOptions) (file : List ℕ) → symbols_of (session_for o (length file)) ≤ 4096
+pub status_for : (o : SourceOptions) (file : List ℕ) → symbols_of (session_for o (length file)) ≤ max_symbols
     → (source_ending o file).status ≡ statuses.Done
 unfolding done_ending
 status_for o file h = ap (λ (x : Ending). x.status) (source_ending-done o file h)

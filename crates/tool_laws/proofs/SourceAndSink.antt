@@ -3,7 +3,7 @@ use Rattle.std.proofs.Common.{ℕ, ◌≡◌, ◌≤◌, ◌∙◌, inl, inr, sy
 use Rattle.std.specs.Int.{div_ceil}
 use Rattle.std.proofs.lemmas.Bool.{cases_lt}
 use Rattle.bats_model.specs.Bytes.{AreBytes}
-use Rattle.bats_model.specs.Session.{symbols_of, symbol_count}
+use Rattle.bats_model.specs.Session.{symbols_of, symbol_count, max_symbols}
 use Rattle.bats_words.specs.declared.command.Command.TheVariants as commands
 use Rattle.bats_words.specs.declared.source_options.SourceOptions.{SourceOptions}
 use Rattle.tool_run.specs.declared.status.Status.TheVariants as statuses
@@ -14,7 +14,6 @@ use Rattle.tool_run.specs.Ending.{Ending}
 use Rattle.tool_source.specs.Source.{source_ending, source_promise}
 use Rattle.tool_sink.specs.Sink.{IsSinkEnding, sink_promise}
 use Rattle.bats_words.proofs.CommandRanges.{command_of-ranges}
-use Rattle.tool_laws.proofs.CommandSeeds.{source_seed}
 use Rattle.tool_source.proofs.Endings.{source_ending-too_long}
 use Rattle.tool_laws.proofs.SentPackets.{Sends}
 use Rattle.tool_laws.proofs.GivenBack.{IsFileOrNone, output_given_back}
@@ -25,8 +24,8 @@ limit_is_not_done e = cc
 
 -- a file that is sent isn't too long
 not_too_long : (o : SourceOptions) (file : List ℕ) → (source_ending o file).status ≡ statuses.Done
-    → symbols_of (session_for o (length file)) ≤ 4096
-not_too_long o file h = elim (cases_lt 4096 (symbols_of (session_for o (length file)))) [
+    → symbols_of (session_for o (length file)) ≤ max_symbols
+not_too_long o file h = elim (cases_lt max_symbols (symbols_of (session_for o (length file)))) [
   | inl long ↦
       absurd (limit_is_not_done (sym (ap (λ (x : Ending). x.status) (source_ending-too_long o file long)) ∙ h))
   | inr short ↦ short
@@ -43,11 +42,11 @@ has_sent : (words : List (List ℕ)) (m t table : ℕ) (systematic : Bool) (seed
     → HasSent (source_options m t table systematic seed first batches) file sent
 has_sent words m t table systematic seed first batches file sent asked bytes is done =
     let o = source_options m t table systematic seed first batches in
+    let within = command_of-ranges words (commands.Source m t table systematic seed first batches) asked in
     record {
       sends = record {
-        ranges = command_of-ranges words (commands.Source m t table systematic seed first batches) asked;
-        seed = (source_seed words m t table systematic seed first batches asked).0;
-        seed_bytes = (source_seed words m t table systematic seed first batches asked).1;
+        ranges = within.0;
+        seed = within.1;
         bytes = bytes;
         symbols = not_too_long o file (sym (ap (λ (x : Ending). x.status) is) ∙ done);
       };

@@ -3,13 +3,13 @@ ghost use Rattle.std.specs.Prelude.{ℕ, ◌≡◌, ◌≤◌, ◌*◌, ◌⊎�
 ghost use Rattle.std.specs.Int.{div_ceil};
 ghost use Rattle.std.specs.List.{Contains};
 ghost use Rattle.bats_model.specs.Bytes.{AreBytes};
-ghost use Rattle.bats_model.specs.Session.{SessionData, symbols_of, symbol_count};
+ghost use Rattle.bats_model.specs.Session.{SessionData, symbols_of, symbol_count, max_symbols};
 ghost use Rattle.bats_model.specs.PacketFile.{IsPacketFile, packets_of};
 ghost use Rattle.bats_model.specs.Agreement.{AgreesWithAll};
 ghost use Rattle.bats_model.specs.declared.item.Item.{Item};
 ghost use Rattle.bats_words.specs.declared.command.Command.TheVariants as commands;
 ghost use Rattle.bats_words.specs.declared.source_options.SourceOptions.{SourceOptions};
-ghost use Rattle.bats_words.specs.Options.{HasRanges, source_options};
+ghost use Rattle.bats_words.specs.Options.{HasRanges, IsSeed, source_options};
 ghost use Rattle.bats_words.specs.Words.{command_of};
 ghost use Rattle.tool_run.specs.declared.status.Status.TheVariants as statuses;
 ghost use Rattle.tool_run.specs.Ending.{Ending};
@@ -20,8 +20,8 @@ ghost use Rattle.tool_sink.specs.Sink.{sink_promise};
 ghost use Rattle.tool_stream.specs.Show.{show_promise};
 ghost use Rattle.tool_laws.specs.GivesBack.{GivesBack};
 
-/// A command has one ending on an input. But for `sink` with need-more the output is free, where two agreeing files are
-/// asked for.
+/// A command has one ending on an input, but for `sink` with need-more: there status and notes line are one, and the two
+/// agreeing files that it writes where both are asked for are free.
 pub fn one_ending()
     ensures nothing { (end : Ending) (input : List ℕ) (ending other : Ending)
         → (reads_nothing end).ends input ending → (reads_nothing end).ends input other → ending ≡ other }
@@ -29,7 +29,7 @@ pub fn one_ending()
         → (source_promise options).ends input ending → (source_promise options).ends input other → ending ≡ other }
     ensures sink { (both : Bool) (input : List ℕ) (ending other : Ending)
         → (sink_promise both).ends input ending → (sink_promise both).ends input other
-        → (ending.status ≡ other.status) × (ending.line ≡ other.line) × (ending.reach ≡ other.reach)
+        → (ending.status ≡ other.status) × (ending.line ≡ other.line)
         × ((ending.output ≡ other.output) ⊎ (ending.status ≡ statuses.NeedMore)) }
     ensures show { (input : List ℕ) (ending other : Ending)
         → show_promise.ends input ending → show_promise.ends input other → ending ≡ other }
@@ -39,8 +39,8 @@ pub fn one_ending()
 /// packets, and the file agrees with all of them.
 pub fn source_sends_a_packet_file()
     ensures { (options : SourceOptions) (file : List ℕ) (ending : Ending) → HasRanges options
-        → length options.seed ≡ 16 → AreBytes options.seed → AreBytes file
-        → symbols_of (session_for options (length file)) ≤ 4096
+        → IsSeed options.seed → AreBytes file
+        → symbols_of (session_for options (length file)) ≤ max_symbols
         → (source_promise options).ends file ending
         → (ending.status ≡ statuses.Done)
         × ((list : List Item)

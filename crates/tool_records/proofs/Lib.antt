@@ -2,3 +2,4 @@ pub mod RecordsRead
 pub mod ReaderAnswers
 pub mod WalkSteps
 pub mod WalksRead
+pub mod WalkLemmas

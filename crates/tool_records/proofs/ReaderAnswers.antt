@@ -1,21 +1,16 @@
--- What the answers of a reader say, for the commands that read packet files.
+-- What the answers of a reader say.
 use Rattle.std.proofs.Common.{ℕ, ◌≡◌, ◌∙◌, List, [], ◌++◌, Option, None, Some, Ok, sym, subst}
 use Rattle.bats_io.specs.Streams.{InputState, IsRead, IsEnded}
 use Rattle.bats_model.specs.Session.{SessionData}
 use Rattle.bats_model.specs.PacketFile.{IsPacketFile}
 use Rattle.bats_model.specs.declared.item.Item.{Item}
-use Rattle.bats_model.specs.declared.read_end.ReadEnd.{ReadEnd}
-use Rattle.bats_format.specs.Reader.{ReaderData, HasReadAs, IsOpen, Nexts, GivesItem, GivesEnd, RefusesAgain}
+use Rattle.bats_format.specs.Reader.{ReaderData, HasReadAs, Nexts, GivesItem, GivesEnd}
 
 pub file_of : (s : Option SessionData) (session : SessionData) (bytes : List ℕ) (list : List Item) (reader : ReaderData) → HasReadAs s bytes list reader
     → s ≡ Some session → IsPacketFile session list bytes
 file_of None session bytes list reader h e = cc
 file_of (Some other) session bytes list reader h e =
     let same : other ≡ session = cc in subst (λ (x : SessionData). IsPacketFile x list bytes) same h
-
--- a reader that is open has refused nothing
-pub not_again : {y z : InputState} {reader reader' : ReaderData} {end : ReadEnd} → IsOpen reader → RefusesAgain y z reader reader' end → ⊥
-not_again o r = cc (o.not_refused, r.refused)
 
 -- the answer of a reader, by its case
 pub item_of : {y z : InputState} {reader reader' : ReaderData} {answer : Option Item} {item : Item} → answer ≡ Some item

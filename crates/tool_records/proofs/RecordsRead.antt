@@ -1,8 +1,7 @@
 -- How far a packet file was read.
-use Rattle.std.proofs.Common.{ℕ, ◌+◌, List, [], ◌∷◌, ◌≡◌, ◌<◌, ◌≤◌, length, drop, Option, None, Some, arith, refl, sym, ap, subst, length-append}
+use Rattle.std.proofs.Common.{ℕ, ◌+◌, List, [], ◌∷◌, ◌≡◌, ◌<◌, ◌≤◌, length, drop, Option, None, Some, arith, refl, ap, length-append}
 use Rattle.std.proofs.lemmas.Bool.Decides.{nat_tests}
 use Rattle.bats_io.specs.Streams.{IsRead}
-use Rattle.bats_io.proofs.ReadLemmas.{IsRead-nothing, IsRead-after}
 use Rattle.bats_model.specs.Session.{SessionData, IsSession}
 use Rattle.bats_model.specs.Records.{header_record, packet_record, header_tag, packet_tag}
 use Rattle.bats_model.specs.PacketFile.{IsItemAt, record_of, most_records}
@@ -12,7 +11,7 @@ use Rattle.bats_model.specs.declared.item.Item.TheVariants as items
 use Rattle.bats_format.specs.Reader.{ReaderData, HasReadAs}
 use Rattle.bats_format.specs.Taking.{HasNoRecord, room_of, ReadsWithin}
 use Rattle.bats_format.proofs.RecordLemmas.{length-header_record, length-packet_record, record_of-some}
-use Rattle.tool_records.specs.ReadsRecords.{AreRecords, ReadsOn, StopsWithin, ReadsRecords}
+use Rattle.tool_records.specs.ReadsRecords.{AreRecords, StopsWithin}
 
 pub are_records : (session : Option SessionData) (bytes : List ℕ) (list : List Item) (reader : ReaderData) → HasReadAs session bytes list reader
     → AreRecords session list bytes
@@ -20,27 +19,10 @@ are_records None bytes list reader h = h
 are_records (Some session) bytes list reader h = h
 
 -- bytes that are no whole record
-pub stops_within : (goes_on : SessionData → List Item → Type 0) (session : Option SessionData) (list : List Item) (front begun : List ℕ) (offset : ℕ) → offset ≡ length front
-    → HasNoRecord session offset begun → StopsWithin goes_on session list front begun
-stops_within goes_on None list front begun offset e none = λ session more h same. absurd (none session more h same)
-stops_within goes_on (Some session) list front begun offset e none = λ item more place same.
-    absurd (none item more (subst (λ (at : ℕ). IsItemAt session at item) (sym e) place) same)
-
--- the records that a reader has read, and then a part of the next
-unfoldable pub ReadsRecords-begun : (goes_on : SessionData → List Item → Type 0) (session : Option SessionData) (bytes : List ℕ) (list : List Item) (reader : ReaderData)
-    (a b c : Option (List ℕ)) → HasReadAs session bytes list reader → ReadsOn goes_on session list → IsRead a b bytes
-    → (records offset : ℕ) → records ≡ length list → offset ≡ length bytes → ReadsWithin session records offset b c [] → ReadsRecords goes_on a c
-ReadsRecords-begun goes_on session bytes list reader a b c h on r records offset n e q = record {
-  session = session;
-  list = list;
-  front = bytes;
-  begun = q.bytes;
-  records = are_records session bytes list reader h;
-  reads_on = on;
-  read = IsRead-after a b c bytes q.bytes r q.read;
-  within = subst (λ (count : ℕ). length q.bytes ≤ room_of session count q.bytes) n q.within;
-  stops = stops_within goes_on session list bytes q.bytes offset e q.none;
-}
+pub stops_within : (goes_on : SessionData → List Item → Type 0) (session : Option SessionData) (list : List Item) (front begun : List ℕ)
+    → HasNoRecord session (length front) begun → StopsWithin goes_on session list front begun
+stops_within goes_on None list front begun none = λ session more is same. absurd (none session more is same)
+stops_within goes_on (Some session) list front begun none = λ item more place same. absurd (none item more place same)
 
 -- no record is empty
 pub none_empty : (session : Option SessionData) (offset : ℕ) → HasNoRecord session offset []
@@ -53,9 +35,6 @@ none_empty (Some session) offset = λ item more place e.
 pub ReadsWithin-nothing : (session : Option SessionData) (records offset : ℕ) (a b : Option (List ℕ)) → IsRead a b []
     → ReadsWithin session records offset a b []
 ReadsWithin-nothing session records offset a b r = record { bytes = []; read = r; within = omega arith; none = none_empty session offset }
-
-pub ReadsWithin-same : (session : Option SessionData) (records offset : ℕ) (a : Option (List ℕ)) → ReadsWithin session records offset a a []
-ReadsWithin-same session records offset a = ReadsWithin-nothing session records offset a a (IsRead-nothing a)
 
 -- a record goes no further than one
 within-header : (session : SessionData) (records : ℕ) (bytes : List ℕ) → records < most_records → bytes ≡ header_tag ∷ drop 1 bytes

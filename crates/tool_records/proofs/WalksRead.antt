@@ -1,15 +1,13 @@
 -- How far a command has read whose walk ended so.
 use Rattle.std.proofs.Common.{ℕ, ◌≡◌, ◌≤◌, false, List, [], ◌∷◌, ◌++◌, length, Option, None, Some, IsSome, arith, refl, sym, ap, ◌∙◌, subst, append-nil, append_assoc, length-append}
-use Rattle.std.proofs.lemmas.Bool.Decides.{nat_tests}
-use Rattle.std.proofs.lemmas.List.{append_cancel_left, append_cancel_right}
 use Rattle.bats_io.specs.Streams.{IsTold, IsRead}
 use Rattle.bats_io.proofs.ReadLemmas.{IsTold-after, told_or, IsTold-told_or}
 use Rattle.bats_model.specs.Session.{SessionData, IsSession}
-use Rattle.bats_model.specs.Records.{header_record, header_tag}
-use Rattle.bats_model.specs.PacketFile.{IsPacketFile, IsItemAt, BeginsWithHeader, record_of, most_records}
+use Rattle.bats_model.specs.Records.{header_record}
+use Rattle.bats_model.specs.PacketFile.{IsItemAt, BeginsWithHeader, record_of}
 use Rattle.bats_model.specs.declared.item.Item.{Item}
 use Rattle.bats_model.specs.declared.item.Item.TheVariants as items
-use Rattle.bats_format.specs.Taking.{HasNoRecord, room_of}
+use Rattle.bats_format.specs.Taking.{room_of}
 use Rattle.bats_format.proofs.RecordLemmas.{same_items, same_headers, length-header_record, header_record-begins}
 use Rattle.tool_records.specs.ReadsRecords.{AreRecords, ReadsOn, StopsWithin, ReadsRecords}
 use Rattle.tool_records.specs.Walk.{ReadsItems, ReadsLast}
@@ -31,6 +29,10 @@ pub told_last : {session : SessionData} {list : List Item} {item : Item} {before
 told_last {session} {list} {item} {before} {after} q =
     (told_or after [], IsTold-after before after (q.front ++ record_of session item) (told_or after []) q.read (IsTold-told_or after []))
 
+-- before the first header, what holds of every session holds of this one
+abbrev pub any_session : SessionData
+any_session = record { m = 0; t = 0; file_length = 0; table = 0; systematic = false; seed = [] }
+
 -- ---- the last of the items
 
 -- items with one more are so in one way
@@ -49,7 +51,7 @@ same_last (x ∷ list) (y ∷ others) item other e =
 -- ---- how far a command reads
 
 -- the records of items after which it goes on, and then no whole one
-pub ReadsRecords-items : (goes_on : SessionData → List Item → Type 0) (session : Option SessionData) (list : List Item) (before after : Option (List ℕ))
+unfoldable pub ReadsRecords-items : (goes_on : SessionData → List Item → Type 0) (session : Option SessionData) (list : List Item) (before after : Option (List ℕ))
     → ReadsOn goes_on session list → ReadsItems session list before after → ReadsRecords goes_on before after
 ReadsRecords-items goes_on session list before after on q = record {
   session = session;
@@ -60,7 +62,7 @@ ReadsRecords-items goes_on session list before after on q = record {
   reads_on = on;
   read = q.read;
   within = q.within;
-  stops = stops_within goes_on session list q.front q.begun (length q.front) refl q.none;
+  stops = stops_within goes_on session list q.front q.begun q.none;
 }
 
 -- and one more after which it goes on
@@ -77,7 +79,7 @@ ReadsRecords-item goes_on session list item before after on q =
       reads_on = on;
       read = subst (λ (bytes : List ℕ). IsRead before after bytes) (sym (append-nil front)) q.read;
       within = omega arith;
-      stops = stops_within goes_on (Some session) (list ++ item ∷ []) front [] (length front) refl (none_empty (Some session) (length front));
+      stops = stops_within goes_on (Some session) (list ++ item ∷ []) front [] (none_empty (Some session) (length front));
     }
 
 -- the first record is a header: it goes no further than one

@@ -1,58 +1,46 @@
--- One item after another is received.
-use Rattle.std.proofs.Common.{arith, ℕ, ◌≡◌, Bool, List, [], ◌∷◌, ◌++◌, length, ◌≤◌, Option, None, Some, Result, Ok, Err, refl, sym, ap, ◌∙◌, subst, inl, inr, append-nil}
+-- What a walk has received whose taker is a sink's receiver.
+use Rattle.std.proofs.Common.{true, ℕ, ◌≡◌, List, [], ◌∷◌, ◌++◌, Option, None, Some, Result, Ok, Err, refl, sym, ◌∙◌, subst, append-nil}
 use Rattle.std.specs.Prelude.{IsSome}
 use Rattle.std.specs.List.{All}
-use Rattle.std.specs.Result.{IsErrAnd}
-use Rattle.std.proofs.lemmas.Result.{err_from_is_err_and}
 use Rattle.std.proofs.lemmas.List.Elements.{All-append, All-head, All-tail, All-nil, All-push}
-use Rattle.bats_io.specs.Faults.{Rose}
-use Rattle.bats_io.specs.Streams.{InputState}
-use Rattle.bats_io.proofs.ReadLemmas.{IsRead-nothing, IsRead-after, IsTold-after, IsTold-read, told_or, IsTold-told_or}
+use Rattle.bats_io.specs.Streams.{InputState, OutputState, IsTold, IsEnded}
 use Rattle.bats_model.specs.Session.{SessionData}
 use Rattle.bats_model.specs.Plain.{IsPlain}
-use Rattle.bats_model.specs.PacketFile.{IsPacketFile, IsItemAt, BeginsWithHeader, record_of, packets_of}
+use Rattle.bats_model.specs.PacketFile.{IsPacketFile, IsItemAt, BeginsWithHeader, packets_of}
 use Rattle.bats_model.specs.declared.packet.Packet.{Packet}
 use Rattle.bats_model.specs.declared.item.Item.{Item}
 use Rattle.bats_model.specs.declared.item.Item.TheVariants as items
-use Rattle.bats_model.specs.declared.read_end.ReadEnd.{ReadEnd}
-use Rattle.bats_model.specs.declared.read_end.ReadEnd.TheVariants as ends
-use Rattle.bats_format.specs.Reader as reader_specs
-use Rattle.bats_format.specs.Reader.{ReaderData, IsOpen, Nexts, GivesItem, GivesEnd, Refuses, RefusesAgain, RefusesInput, RefusesAfter, HasReadAs}
 use Rattle.bats_format.proofs.JoinedFiles.{packets_of-append}
-use Rattle.bats_format.proofs.RecordLemmas.{same_items}
-use Rattle.bats_decode.specs.Decoder as decoder_specs
-use Rattle.bats_decode.specs.Decoder.{DecoderData}
-use Rattle.bats_format.specs.Taking.{ReadsWithin, room_of}
+use Rattle.bats_decode.specs.Decoder.{DecoderData, StandsFor}
+use Rattle.tool_run.specs.declared.stop.Stop.{Stop}
+use Rattle.tool_run.specs.Streams.{Ends}
+use Rattle.tool_records.specs.declared.walking.Taken.{Taken}
+use Rattle.tool_records.specs.declared.walking.Taken.TheVariants as takes
+use Rattle.tool_records.specs.Walk.{GivenSoFar, WalksToEnd}
 use Rattle.tool_records.specs.ReadsRecords.{ReadsOn, ReadsRecords}
-use Rattle.tool_records.proofs.RecordsRead.{ReadsRecords-begun, record_of-within, ReadsWithin-nothing, ReadsWithin-same}
-use Rattle.tool_records.proofs.ReaderAnswers.{not_again, file_of, still_ended}
-use Rattle.tool_sink.specs.Sink.{takes_plain}
-use Rattle.tool_sink.specs.steps.Receiving.{HasReceived, Halts, TakesIn, TakesItem, IsNotPlain, IsRefusedAfter, MeetsNotPlain, ReceivesNext, Receives, ReceivesHeader, IsFresh, HasReceivedAll}
-use Rattle.tool_sink.specs.declared.receive.Halt.{Halt}
-use Rattle.tool_sink.specs.declared.receive.Halt.TheVariants as halts
+use Rattle.tool_records.proofs.WalksRead.{same_last, ReadsRecords-items}
+use Rattle.tool_sink.specs.Sink.{ArePlain, takes_plain}
+use Rattle.tool_sink.specs.steps.Receiving.{HasShapeOf, Receives, ReceivesAs, StandsForItems, EndsNotPlain, IsNotPlain, TakesIn, TakesItem}
 
 -- ---- one item
 
-pub TakesIn-packet : (session : SessionData) (at : ℕ) (packet : Packet) (d d' : DecoderData) → IsPlain session packet → d'.session ≡ d.session
-    → ((before : List Packet) → decoder_specs.StandsFor before d → decoder_specs.StandsFor (before ++ packet ∷ []) d')
-    → TakesIn session (items.Packet at packet) d d'
+pub TakesIn-packet : (at : ℕ) (packet : Packet) (d d' : DecoderData) → d'.session ≡ d.session
+    → ((before : List Packet) → StandsFor before d → StandsFor (before ++ packet ∷ []) d') → TakesIn (items.Packet at packet) d d'
 unfolding packets_of
-TakesIn-packet session at packet d d' plain same stands =
-    record { plain = All-push (IsPlain session) [] packet (All-nil (IsPlain session)) plain; same_session = same; stands = stands }
+TakesIn-packet at packet d d' same stands = record { same_session = same; stands = stands }
+
+pub TakesIn-header : (at : ℕ) (d : DecoderData) → TakesIn (items.Header at) d d
+unfolding packets_of
+TakesIn-header at d = record {
+  same_session = refl;
+  stands = λ before h. subst (λ (xs : List Packet). StandsFor xs d) (sym (append-nil before)) h;
+}
 
 -- a plain packet
 pub plain_packet : (session : SessionData) (at : ℕ) (packet : Packet) → IsPlain session packet
     → All (IsPlain session) (packets_of (items.Packet at packet ∷ []))
 unfolding packets_of
 plain_packet session at packet plain = All-push (IsPlain session) [] packet (All-nil (IsPlain session)) plain
-
-pub TakesIn-header : (session : SessionData) (at : ℕ) (d : DecoderData) → TakesIn session (items.Header at) d d
-unfolding packets_of
-TakesIn-header session at d = record {
-  plain = All-nil (IsPlain session);
-  same_session = refl;
-  stands = λ before h. subst (λ (xs : List Packet). decoder_specs.StandsFor xs d) (sym (append-nil before)) h;
-}
 
 -- ---- one item more
 
@@ -63,8 +51,55 @@ plain_more session list item plain more =
     subst (λ (xs : List Packet). All (IsPlain session) xs) (sym (packets_of-append list (item ∷ [])))
     (All-append (IsPlain session) (packets_of list) (packets_of (item ∷ [])) plain more)
 
-not_plain_of : (session : SessionData) (item other : Item) → item ≡ other → IsNotPlain session item → IsNotPlain session other
-not_plain_of session item other e n = subst (λ (i : Item). IsNotPlain session i) e n
+plain_nothing : (session : SessionData) (list : List Item) → list ≡ [] → All (IsPlain session) (packets_of list)
+unfolding packets_of
+plain_nothing session list e = subst (λ (xs : List Item). All (IsPlain session) (packets_of xs)) (sym e) (All-nil (IsPlain session))
+
+-- what a decoder stands for is plain
+plain_items : (decoder : Option DecoderData) (session : SessionData) (list : List Item) → StandsForItems decoder session list
+    → All (IsPlain session) (packets_of list)
+plain_items None session list h = plain_nothing session list h
+plain_items (Some d) session list h = subst (λ (s : SessionData). All (IsPlain s) (packets_of list)) h.0 h.1.plain
+
+received_as : (session : SessionData) (list : List Item) (item : Item) (d d' : DecoderData) (result : Result Taken Stop)
+    → StandsForItems (Some d) session list → TakesItem session item d d' result → ReceivesAs (Some d') session (list ++ item ∷ []) result
+received_as session list item d d' (Ok takes.GoesOn) h t = (
+  t.same_session ∙ h.0,
+  subst (λ (xs : List Packet). StandsFor xs d') (sym (packets_of-append list (item ∷ []))) (t.stands (packets_of list) h.1),
+)
+received_as session list item d d' (Ok takes.Halts) h t =
+    record { before = list; item = item; list_is = refl; plain = plain_items (Some d) session list h; not_plain = t }
+received_as session list item d d' (Err stop) h t = (t.0, plain_more session list item (plain_items (Some d) session list h) t.1)
+
+-- nothing was received yet
+pub Receives-nothing : (decoder : Option DecoderData) (o : OutputState) → decoder ≡ None
+    → (session : SessionData) → Receives decoder session [] o o (Ok takes.GoesOn)
+Receives-nothing decoder o e session = record {
+  as_far = subst (λ (d : Option DecoderData). StandsForItems d session []) (sym e) refl;
+  nothing_written = refl;
+}
+
+-- a new decoder, where there was none
+pub StandsForItems-new : (decoder : Option DecoderData) (d : DecoderData) (session : SessionData) (list : List Item) → decoder ≡ None
+    → d.session ≡ session → StandsFor [] d → StandsForItems decoder session list → StandsForItems (Some d) session list
+unfolding packets_of
+StandsForItems-new decoder d session list e same stands h =
+    let none : list ≡ [] = subst (λ (o : Option DecoderData). StandsForItems o session list) e h in
+    (same, subst (λ (xs : List Item). StandsFor (packets_of xs) d) (sym none) stands)
+
+-- the item that follows has the session's shape
+pub HasShapeOf-place : (session : SessionData) (offset : ℕ) (item : Item) → IsItemAt session offset item → HasShapeOf session item
+HasShapeOf-place session offset (items.Header at) h = tt
+HasShapeOf-place session offset (items.Packet at packet) h = h.1
+
+-- an item more was given to the decoder
+pub Receives-item : (session : SessionData) (list : List Item) (item : Item) (d d' : DecoderData) (start now : OutputState)
+    (result : Result Taken Stop) → now ≡ start → StandsForItems (Some d) session list → TakesItem session item d d' result
+    → Receives (Some d') session (list ++ item ∷ []) start now result
+Receives-item session list item d d' start now result same h t =
+    record { as_far = received_as session list item d d' result h t; nothing_written = same }
+
+-- ---- the first packet that isn't plain
 
 one_not_plain : (session : SessionData) (at : ℕ) (packet : Packet) → ¬ IsPlain session packet
     → All (IsPlain session) (packets_of (items.Packet at packet ∷ [])) → ⊥
@@ -75,8 +110,8 @@ All-append_right : {X : Type 0} (P : X → Type 0) (xs ys : List X) → All P (x
 All-append_right P [] ys h = h
 All-append_right P (x ∷ xs) ys h = All-append_right P xs ys (All-tail P x (xs ++ ys) h)
 
--- items of which the last is no plain packet
-stops_at : (session : SessionData) (list : List Item) (item : Item) → IsNotPlain session item
+-- items of which the last is a packet that isn't plain
+pub stops_at : (session : SessionData) (list : List Item) (item : Item) → IsNotPlain session item
     → All (IsPlain session) (packets_of (list ++ item ∷ [])) → ⊥
 stops_at session list item n plain =
     one_not_plain session n.at n.packet n.not_plain
@@ -84,271 +119,73 @@ stops_at session list item n plain =
     (All-append_right (IsPlain session) (packets_of list) (packets_of (item ∷ []))
     (subst (λ (xs : List Packet). All (IsPlain session) xs) (packets_of-append list (item ∷ [])) plain)))
 
--- what was received, and then no whole record
-reads_begun : (start x y : InputState) (r : ReaderData) (d : DecoderData) → HasReceived start x r d
-    → ReadsWithin r.session r.records r.offset x.left y.left [] → ReadsRecords takes_plain start.left y.left
-reads_begun start x y r d h q =
-    ReadsRecords-begun takes_plain r.session h.bytes h.list r start.left x.left y.left h.reader_stands.read
-    (subst (λ (s : Option SessionData). ReadsOn takes_plain s h.list) (sym h.session) h.plain) h.read r.records r.offset
-    h.reader_stands.records h.reader_stands.offset q
+-- the item at which a receiver halts, and those before it
+pub record MeetsNotPlain (session : SessionData) (list : List Item) (item : Item) : Type 0 where
+  pub plain : ArePlain (Some session) list
+  pub not_plain : IsNotPlain session item
 
--- the session of an item that was read is the reader's
-session_of : (one two : Option SessionData) (s t : SessionData) → one ≡ Some s → (IsSome one → one ≡ Some t) → t ≡ s
-session_of None two s t e h = cc
-session_of (Some u) two s t e h = let same : Some u ≡ Some t = h refl in cc
-
-pub HasReceived-more : (start x y : InputState) (r r' : ReaderData) (d d' : DecoderData) (item : Item) → HasReceived start x r d
-    → GivesItem x y r r' item → TakesIn d.session item d d' → HasReceived start y r' d'
-HasReceived-more start x y r r' d d' item h g t =
-    let same : g.session ≡ d.session = session_of r.session r'.session d.session g.session h.session g.same_session in
+pub MeetsNotPlain-ends : (session : SessionData) (list : List Item) (item : Item) → EndsNotPlain session (list ++ item ∷ [])
+    → MeetsNotPlain session list item
+MeetsNotPlain-ends session list item h =
+    let same = same_last list h.before item h.item h.list_is in
     record {
-      bytes = h.bytes ++ record_of g.session item;
-      list = h.list ++ item ∷ [];
-      is_open = g.is_open;
-      session = g.session_is ∙ ap Some (same ∙ sym t.same_session);
-      reader_stands = g.stands h.bytes h.list h.reader_stands;
-      decoder_stands =
-          subst (λ (xs : List Packet). decoder_specs.StandsFor xs d') (sym (packets_of-append h.list (item ∷ [])))
-          (t.stands (packets_of h.list) h.decoder_stands);
-      plain =
-          subst (λ (xs : List Packet). All (IsPlain d'.session) xs) (sym (packets_of-append h.list (item ∷ [])))
-          (subst (λ (s : SessionData). All (IsPlain s) (packets_of h.list ++ packets_of (item ∷ []))) (sym t.same_session)
-          (All-append (IsPlain d.session) (packets_of h.list) (packets_of (item ∷ [])) h.plain t.plain));
-      read = IsRead-after start.left x.left y.left h.bytes (record_of g.session item) h.read g.taken;
-      no_fault = g.no_fault ∙ h.no_fault;
+      plain = subst (λ (xs : List Item). ArePlain (Some session) xs) (sym same.0) h.plain;
+      not_plain = subst (λ (i : Item). IsNotPlain session i) (sym same.1) h.not_plain;
     }
 
--- what was received, and then a record more after which the command reads on
-reads_item : (start x y : InputState) (r r' : ReaderData) (d : DecoderData) (item : Item) → HasReceived start x r d
-    → GivesItem x y r r' item → All (IsPlain d.session) (packets_of (item ∷ [])) → ReadsRecords takes_plain start.left y.left
-reads_item start x y r r' d item h g plain =
-    let same : g.session ≡ d.session = session_of r.session r'.session d.session g.session h.session g.same_session in
-    let stands = g.stands h.bytes h.list h.reader_stands in
-    ReadsRecords-begun takes_plain r'.session (h.bytes ++ record_of g.session item) (h.list ++ item ∷ []) r' start.left y.left y.left stands.read
-    (subst (λ (s : Option SessionData). ReadsOn takes_plain s (h.list ++ item ∷ [])) (sym (g.session_is ∙ ap Some same))
-    (plain_more d.session h.list item h.plain plain))
-    (IsRead-after start.left x.left y.left h.bytes (record_of g.session item) h.read g.taken)
-    r'.records r'.offset stands.records stands.offset (ReadsWithin-same r'.session r'.records r'.offset y.left)
+-- ---- what was received so far
 
--- what was received, and then exactly the record of a packet that isn't plain
-reads_not_plain : (start x y : InputState) (r r' : ReaderData) (d : DecoderData) (item : Item) → HasReceived start x r d
-    → GivesItem x y r r' item → IsNotPlain d.session item → ReadsRecords takes_plain start.left y.left
-reads_not_plain start x y r r' d item h g n =
-    let same : g.session ≡ d.session = session_of r.session r'.session d.session g.session h.session g.same_session in
-    let stands = g.stands h.bytes h.list h.reader_stands in
-    let file : IsPacketFile g.session (h.list ++ item ∷ []) (h.bytes ++ record_of g.session item) =
-    file_of r'.session g.session (h.bytes ++ record_of g.session item) (h.list ++ item ∷ []) r' stands.read g.session_is in
-    let place : IsItemAt d.session (length h.bytes) item =
-    subst (λ (at : ℕ). IsItemAt d.session at item) h.reader_stands.offset
-    (subst (λ (s : SessionData). IsItemAt s r.offset item) same g.place) in
+-- some session, since what a receiver has done before the first header is said of every session
+some_session : SessionData
+some_session = record { m = 1; t = 1; file_length = 0; table = 0; systematic = true; seed = [] }
+
+pub nothing_written : (decoder : Option DecoderData) (session : Option SessionData) (list : List Item) (o p : OutputState)
+    → GivenSoFar (Receives decoder) session list o p → p ≡ o
+nothing_written decoder None list o p h = (h some_session).nothing_written
+nothing_written decoder (Some session) list o p h = h.nothing_written
+
+pub plain_so_far : (decoder : Option DecoderData) (session : Option SessionData) (list : List Item) (o p : OutputState)
+    → GivenSoFar (Receives decoder) session list o p → ArePlain session list
+plain_so_far decoder None list o p h = tt
+plain_so_far decoder (Some session) list o p h = plain_items decoder session list h.as_far
+
+-- a command reads on after plain items
+pub reads_on : (session : Option SessionData) (list : List Item) → ArePlain session list → ReadsOn takes_plain session list
+reads_on None list h = tt
+reads_on (Some session) list h = h
+
+-- there is a decoder once an item came
+has_decoder : (decoder : Option DecoderData) (session : SessionData) (list : List Item) → StandsForItems decoder session list
+    → BeginsWithHeader list → IsSome decoder
+has_decoder None session list e h = absurd (subst (λ (xs : List Item). BeginsWithHeader xs) e h)
+has_decoder (Some d) session list h begins = refl
+
+pub has_decoder-walked : (decoder : Option DecoderData) (x y : Ends) → WalksToEnd (Receives decoder) x y → IsSome decoder
+has_decoder-walked decoder x y w = has_decoder decoder w.session w.list w.given.as_far w.file.header
+
+-- the whole input is a packet file of plain packets, and the decoder stands for them
+pub record HasReceivedAll (start now : InputState) (decoder : DecoderData) : Type 0 where
+  pub bytes : List ℕ
+  pub list : List Item
+  pub told : IsTold start.left bytes
+  pub end : IsEnded now.left
+  pub file : IsPacketFile decoder.session list bytes
+  pub decoder_stands : StandsFor (packets_of list) decoder
+  pub reads : ReadsRecords takes_plain start.left now.left
+  pub no_fault : now.faults ≡ start.faults
+
+pub HasReceivedAll-walked : (decoder : Option DecoderData) (d : DecoderData) (x y : Ends) → decoder ≡ Some d
+    → WalksToEnd (Receives decoder) x y → HasReceivedAll x.input y.input d
+HasReceivedAll-walked decoder d x y e w =
+    let stands : StandsForItems (Some d) w.session w.list = subst (λ (o : Option DecoderData). StandsForItems o w.session w.list) e w.given.as_far in
     record {
-      session = Some d.session;
-      list = h.list;
-      front = h.bytes;
-      begun = record_of g.session item;
-      records = file_of r.session d.session h.bytes h.list r h.reader_stands.read h.session;
-      reads_on = h.plain;
-      read = IsRead-after start.left x.left y.left h.bytes (record_of g.session item) h.read g.taken;
-      within = subst (λ (s : SessionData). length (record_of g.session item) ≤ room_of (Some s) (length h.list) (record_of g.session item)) same
-          (record_of-within g.session (length h.list) r.offset item (omega (arith, g.counted, g.few, h.reader_stands.records)) file.is_session g.place);
-      stops = λ other more at e.
-          let first : record_of d.session item ++ [] ≡ record_of d.session other ++ more =
-          append-nil (record_of d.session item) ∙ ap (λ (s : SessionData). record_of s item) (sym same) ∙ e in
-          let one = same_items d.session (length h.bytes) item other [] more place at first in
-          (sym one.rest, λ plain. stops_at d.session h.list other (not_plain_of d.session item other one.same n) plain);
-    }
-
--- a packet that isn't plain
-pub Halts-not_plain : (start x y : InputState) (r r' : ReaderData) (d : DecoderData) (item : Item) → HasReceived start x r d
-    → GivesItem x y r r' item → IsNotPlain d.session item → MeetsNotPlain start y
-Halts-not_plain start x y r r' d item h g n =
-    let same : g.session ≡ d.session = session_of r.session r'.session d.session g.session h.session g.same_session in
-    let stands = g.stands h.bytes h.list h.reader_stands in
-    let front : List ℕ = h.bytes ++ record_of g.session item in
-    let rest : List ℕ = told_or y.left [] in
-    let file : IsPacketFile d.session (h.list ++ item ∷ []) front =
-    file_of r'.session d.session front (h.list ++ item ∷ []) r' stands.read (g.session_is ∙ ap Some same) in
-    let read = IsRead-after start.left x.left y.left h.bytes (record_of g.session item) h.read g.taken in
-    record {
-      input = front ++ rest;
-      session = d.session;
-      list = h.list;
-      at = n.at;
-      packet = n.packet;
-      front = front;
-      rest = rest;
-      told = IsTold-after start.left y.left front rest read (IsTold-told_or y.left []);
-      is_front = record {
-        file = subst (λ (i : Item). IsPacketFile d.session (h.list ++ i ∷ []) front) n.item_is file;
-        split = refl;
-      };
-      plain = h.plain;
-      not_plain = n.not_plain;
-      reads = reads_not_plain start x y r r' d item h g n;
-      no_fault = g.no_fault ∙ h.no_fault;
-    }
-
-pub Halts-item : (start x y : InputState) (r r' : ReaderData) (d d' : DecoderData) (item : Item) (halt : Halt) → HasReceived start x r d
-    → GivesItem x y r r' item → TakesItem d.session item d d' (Err halt) → Halts start y halt
-Halts-item start x y r r' d d' item halts.NotPlain h g t = Halts-not_plain start x y r r' d item h g t
-Halts-item start x y r r' d d' item (halts.Input ends.Memory) h g t = (g.no_fault ∙ h.no_fault, reads_item start x y r r' d item h g t)
-Halts-item start x y r r' d d' item (halts.Input ends.ReadFault) h g t = absurd t
-Halts-item start x y r r' d d' item (halts.Input ends.NoHeader) h g t = absurd t
-Halts-item start x y r r' d d' item (halts.Input (ends.BadHeader field)) h g t = absurd t
-Halts-item start x y r r' d d' item (halts.Input (ends.BadTag at byte)) h g t = absurd t
-Halts-item start x y r r' d d' item (halts.Input (ends.OtherSession at)) h g t = absurd t
-Halts-item start x y r r' d d' item (halts.Input (ends.Truncated at)) h g t = absurd t
-Halts-item start x y r r' d d' item (halts.Input ends.TooManyRecords) h g t = absurd t
-
--- what a `?` returns that passes that on
-pub ReceivesNext-exit : (start x y : InputState) (r r' : ReaderData) (d d' : DecoderData) (item : Item) (halt : Halt)
-    (result : Result Bool Halt) → HasReceived start x r d → GivesItem x y r r' item → TakesItem d.session item d d' (Err halt)
-    → IsErrAnd result (λ h. h ≡ halt) → ReceivesNext start y r' d' result
-ReceivesNext-exit start x y r r' d d' item halt result h g t is =
-    let w = err_from_is_err_and result is in
-    subst (λ (z : Result Bool Halt). ReceivesNext start y r' d' z) (sym w.1)
-    (subst (λ (z : Halt). Halts start y z) (sym w.2) (Halts-item start x y r r' d d' item halt h g t))
-
--- ---- a refusal
-
--- what follows what was received is refused
-refused_input : (start x y : InputState) (r r' : ReaderData) (d : DecoderData) (end : ReadEnd) → HasReceived start x r d
-    → RefusesInput x y r r' end → IsRefusedAfter start y end
-refused_input start x y r r' d end h q = record {
-  input = h.bytes ++ q.left;
-  session = Some d.session;
-  list = h.list;
-  told = IsTold-after start.left x.left h.bytes q.left h.read q.told;
-  reading = subst (λ (s : Option SessionData). RefusesAfter s h.list (h.bytes ++ q.left) end) h.session
-      (q.is_refused h.bytes h.list h.reader_stands);
-  plain = h.plain;
-  reads = reads_begun start x y r d h q.read;
-  no_fault = q.no_fault ∙ h.no_fault;
-}
-
-pub Halts-refused : (start x y : InputState) (r r' : ReaderData) (d : DecoderData) (end : ReadEnd) → HasReceived start x r d
-    → Refuses x y r r' end → Halts start y (halts.Input end)
-Halts-refused start x y r r' d ends.Memory h (inl q) = absurd (not_again h.is_open q)
-Halts-refused start x y r r' d ends.Memory h (inr q) = (q.no_fault ∙ h.no_fault, reads_begun start x y r d h q.read)
-Halts-refused start x y r r' d ends.ReadFault h (inl q) = absurd (not_again h.is_open q)
-Halts-refused start x y r r' d ends.ReadFault h (inr q) =
-    (subst (λ (f : ℕ). Rose f y.faults) h.no_fault q.fault, reads_begun start x y r d h q.read)
-Halts-refused start x y r r' d ends.NoHeader h (inl q) = absurd (not_again h.is_open q)
-Halts-refused start x y r r' d ends.NoHeader h (inr q) = refused_input start x y r r' d ends.NoHeader h q
-Halts-refused start x y r r' d (ends.BadHeader field) h (inl q) = absurd (not_again h.is_open q)
-Halts-refused start x y r r' d (ends.BadHeader field) h (inr q) = refused_input start x y r r' d (ends.BadHeader field) h q
-Halts-refused start x y r r' d (ends.BadTag at byte) h (inl q) = absurd (not_again h.is_open q)
-Halts-refused start x y r r' d (ends.BadTag at byte) h (inr q) = refused_input start x y r r' d (ends.BadTag at byte) h q
-Halts-refused start x y r r' d (ends.OtherSession at) h (inl q) = absurd (not_again h.is_open q)
-Halts-refused start x y r r' d (ends.OtherSession at) h (inr q) = refused_input start x y r r' d (ends.OtherSession at) h q
-Halts-refused start x y r r' d (ends.Truncated at) h (inl q) = absurd (not_again h.is_open q)
-Halts-refused start x y r r' d (ends.Truncated at) h (inr q) = refused_input start x y r r' d (ends.Truncated at) h q
-Halts-refused start x y r r' d ends.TooManyRecords h (inl q) = absurd (not_again h.is_open q)
-Halts-refused start x y r r' d ends.TooManyRecords h (inr q) = refused_input start x y r r' d ends.TooManyRecords h q
-
--- ---- the whole input
-
--- what a `?` returns that passes on why the receiving halts
-pub Receives-exit : (start y : InputState) (r : ReaderData) (d : DecoderData) (halt : Halt) (result : Result DecoderData Halt)
-    → ReceivesNext start y r d (Err halt) → IsErrAnd result (λ h. h ≡ halt) → Receives start y result
-Receives-exit start y r d halt result h is =
-    let w = err_from_is_err_and result is in
-    subst (λ (z : Result DecoderData Halt). Receives start y z) (sym w.1)
-    (subst (λ (z : Halt). Halts start y z) (sym w.2) h)
-
--- ---- the first header
-
-fresh_stands : (r : ReaderData) → IsFresh r → reader_specs.StandsFor [] [] r
-fresh_stands r e =
-    subst (λ (z : ReaderData). reader_specs.StandsFor [] [] z) (sym e) (record { read = (refl, refl); records = refl; offset = refl })
-
-fresh_open : (r : ReaderData) → IsFresh r → IsOpen r
-fresh_open r e = subst (λ (z : ReaderData). IsOpen z) (sym e) (record { not_ended = refl; not_refused = refl })
-
-fresh_session : (r : ReaderData) → IsFresh r → r.session ≡ None
-fresh_session r e = ap (λ (z : ReaderData). z.session) e
-
--- a packet file of one item has no packet
-packets_of-one : (item : Item) → BeginsWithHeader (item ∷ []) → packets_of (item ∷ []) ≡ []
-unfolding packets_of
-packets_of-one (items.Header at) h = refl
-packets_of-one (items.Packet at packet) h = absurd h
-
-pub ReceivesHeader-read : (x y : InputState) (r r' : ReaderData) (item : Item) (s : SessionData) → IsFresh r → GivesItem x y r r' item
-    → r'.session ≡ Some s → ReceivesHeader x y r' (Ok s)
-ReceivesHeader-read x y r r' item s e g is decoder same stands =
-    let read = g.stands [] [] (fresh_stands r e) in
-    let file : IsPacketFile s (item ∷ []) (record_of g.session item) = file_of r'.session s (record_of g.session item) (item ∷ []) r' read.read is in
-    let none : [] ≡ packets_of (item ∷ []) = sym (packets_of-one item file.header) in
-    record {
-      bytes = record_of g.session item;
-      list = item ∷ [];
-      is_open = g.is_open;
-      session = is ∙ ap Some (sym same);
-      reader_stands = read;
-      decoder_stands = subst (λ (xs : List Packet). decoder_specs.StandsFor xs decoder) none stands;
-      plain = subst (λ (xs : List Packet). All (IsPlain decoder.session) xs) none (All-nil (IsPlain decoder.session));
-      read = g.taken;
-      no_fault = g.no_fault;
-    }
-
--- no whole record was read
-reads_first : (x y : InputState) (r : ReaderData) → IsFresh r → ReadsWithin r.session r.records r.offset x.left y.left [] → ReadsRecords takes_plain x.left y.left
-reads_first x y r e q =
-    ReadsRecords-begun takes_plain r.session [] [] r x.left x.left y.left (fresh_stands r e).read
-    (subst (λ (s : Option SessionData). ReadsOn takes_plain s []) (sym (fresh_session r e)) tt) (IsRead-nothing x.left) r.records r.offset
-    (fresh_stands r e).records (fresh_stands r e).offset q
-
-refused_first : (x y : InputState) (r r' : ReaderData) (end : ReadEnd) → IsFresh r → RefusesInput x y r r' end → IsRefusedAfter x y end
-refused_first x y r r' end e q = record {
-  input = q.left;
-  session = None;
-  list = [];
-  told = q.told;
-  reading = (
-    refl,
-    subst (λ (s : Option SessionData). RefusesAfter s [] q.left end) (fresh_session r e)
-        (q.is_refused [] [] (fresh_stands r e)),
-  );
-  plain = tt;
-  reads = reads_first x y r e q.read;
-  no_fault = q.no_fault;
-}
-
-pub ReceivesHeader-refused : (x y : InputState) (r r' : ReaderData) (end : ReadEnd) → IsFresh r → Refuses x y r r' end
-    → ReceivesHeader x y r' (Err (halts.Input end))
-ReceivesHeader-refused x y r r' ends.Memory e (inl q) = absurd (not_again (fresh_open r e) q)
-ReceivesHeader-refused x y r r' ends.Memory e (inr q) = (q.no_fault, reads_first x y r e q.read)
-ReceivesHeader-refused x y r r' ends.ReadFault e (inl q) = absurd (not_again (fresh_open r e) q)
-ReceivesHeader-refused x y r r' ends.ReadFault e (inr q) = (q.fault, reads_first x y r e q.read)
-ReceivesHeader-refused x y r r' ends.NoHeader e (inl q) = absurd (not_again (fresh_open r e) q)
-ReceivesHeader-refused x y r r' ends.NoHeader e (inr q) = refused_first x y r r' ends.NoHeader e q
-ReceivesHeader-refused x y r r' (ends.BadHeader field) e (inl q) = absurd (not_again (fresh_open r e) q)
-ReceivesHeader-refused x y r r' (ends.BadHeader field) e (inr q) = refused_first x y r r' (ends.BadHeader field) e q
-ReceivesHeader-refused x y r r' (ends.BadTag at byte) e (inl q) = absurd (not_again (fresh_open r e) q)
-ReceivesHeader-refused x y r r' (ends.BadTag at byte) e (inr q) = refused_first x y r r' (ends.BadTag at byte) e q
-ReceivesHeader-refused x y r r' (ends.OtherSession at) e (inl q) = absurd (not_again (fresh_open r e) q)
-ReceivesHeader-refused x y r r' (ends.OtherSession at) e (inr q) = refused_first x y r r' (ends.OtherSession at) e q
-ReceivesHeader-refused x y r r' (ends.Truncated at) e (inl q) = absurd (not_again (fresh_open r e) q)
-ReceivesHeader-refused x y r r' (ends.Truncated at) e (inr q) = refused_first x y r r' (ends.Truncated at) e q
-ReceivesHeader-refused x y r r' ends.TooManyRecords e (inl q) = absurd (not_again (fresh_open r e) q)
-ReceivesHeader-refused x y r r' ends.TooManyRecords e (inr q) = refused_first x y r r' ends.TooManyRecords e q
-
--- ---- the end of the input
-
--- all was received
-pub HasReceivedAll-end : (start x y : InputState) (r r' : ReaderData) (d : DecoderData) → HasReceived start x r d → GivesEnd x y r r'
-    → HasReceivedAll start y d
-HasReceivedAll-end start x y r r' d h g =
-    let left = g.nothing_left h.is_open.not_ended in
-    record {
-      bytes = h.bytes;
-      list = h.list;
-      told = IsTold-read start.left x.left h.bytes h.read left.1;
-      end = still_ended x.left y.left left.1 g.nothing_read;
-      file = file_of r.session d.session h.bytes h.list r h.reader_stands.read h.session;
-      decoder_stands = h.decoder_stands;
-      plain = h.plain;
-      reads = reads_begun start x y r d h (ReadsWithin-nothing r.session r.records r.offset x.left y.left g.nothing_read);
-      no_fault = g.no_fault ∙ h.no_fault;
+      bytes = w.input;
+      list = w.list;
+      told = w.told;
+      end = w.end;
+      file = subst (λ (s : SessionData). IsPacketFile s w.list w.input) (sym stands.0) w.file;
+      decoder_stands = stands.1;
+      reads = ReadsRecords-items takes_plain (Some w.session) w.list x.input.left y.input.left
+          (plain_items decoder w.session w.list w.given.as_far) w.reads;
+      no_fault = w.no_fault;
     }

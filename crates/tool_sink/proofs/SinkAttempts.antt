@@ -1,12 +1,13 @@
 -- `sink`, from its parts.
-use Rattle.std.proofs.Common.{ℕ, ◌≡◌, ◌≤◌, ◌-◌, ◌^◌, min, Bool, List, [], ◌∷◌, length, Result, Ok, Err, refl, sym, ap, ◌∙◌, subst, inl, inr, arith}
+use Rattle.std.proofs.Common.{ℕ, ◌≡◌, ◌≤◌, ◌-◌, ◌^◌, min, ◌⊎◌, Bool, List, [], ◌∷◌, ◌++◌, length, Option, Some, Result, Ok, Err, refl, sym, ap, ◌∙◌, subst, inl, inr, arith}
 use Rattle.std.specs.Prelude.{string_bytes}
-use Rattle.bats_io.specs.Faults.{Rose}
+use Rattle.std.specs.Result.{IsErrAnd}
+use Rattle.std.proofs.lemmas.Result.{err_from_is_err_and}
 use Rattle.bats_io.specs.Streams.{InputState, OutputState, IsTold}
 use Rattle.bats_io.specs.Sink.{appended}
 use Rattle.bats_io.proofs.Appended.{appended-nil}
 use Rattle.bats_io.proofs.ReadLemmas.{told_or, IsTold-told_or}
-use Rattle.bats_model.specs.PacketFile.{packets_of, most_records}
+use Rattle.bats_model.specs.PacketFile.{IsPacketFile, packets_of, record_of, most_records}
 use Rattle.bats_model.specs.Kept.{kept_count}
 use Rattle.bats_model.specs.RightAnswer.{IsRightAnswer}
 use Rattle.bats_model.specs.declared.item.Item.{Item}
@@ -15,28 +16,35 @@ use Rattle.bats_model.specs.declared.answer.Answer.{Answer}
 use Rattle.bats_model.specs.declared.answer.Answer.TheVariants.{File, Inconsistent, NeedMore}
 use Rattle.bats_model.specs.declared.packet.Packet.{Packet}
 use Rattle.bats_model.specs.declared.read_end.ReadEnd.{ReadEnd}
-use Rattle.bats_model.specs.declared.read_end.ReadEnd.TheVariants as ends
-use Rattle.bats_decode.specs.Decoder.{DecoderData}
+use Rattle.bats_decode.specs.Decoder.{DecoderData, StandsFor}
 use Rattle.tool_run.specs.declared.finish.Finish.{Finish}
-use Rattle.tool_sink.specs.declared.receive.Halt.{Halt}
-use Rattle.tool_sink.specs.declared.receive.Halt.TheVariants as halts
 use Rattle.tool_run.specs.declared.status.Status.{Status}
 use Rattle.tool_run.specs.declared.stop.Stop.{Stop}
 use Rattle.tool_run.specs.declared.stop.Stop.TheVariants as stops
-use Rattle.tool_run.specs.Ending.{Ending, HasRead}
-use Rattle.tool_records.specs.Reading.{refused_ending}
-use Rattle.tool_sink.specs.Sink.{answer_ending, answer_status, answer_line, IsSinkEnding, not_built_ending, takes_plain, sink_promise}
-use Rattle.tool_records.specs.ReadsRecords.{ReadsRecords}
-use Rattle.tool_run.specs.Run.{WritesPart}
 use Rattle.tool_run.specs.Attempt.{Attempts, AttemptsAs, IsOfEnding}
-use Rattle.tool_sink.specs.steps.Receiving.{HasReceivedAll, Halts, IsRefusedAfter, MeetsNotPlain}
-use Rattle.tool_sink.specs.steps.Answering.{AnswersAs}
-use Rattle.tool_sink.specs.steps.Halting.{HaltsAs}
+use Rattle.tool_run.specs.Ending.{Ending, HasRead}
+use Rattle.tool_run.specs.Run.{WritesPart}
+use Rattle.tool_run.specs.Streams.{Ends}
 use Rattle.tool_run.proofs.Begun.{IsBegun-front}
+use Rattle.tool_records.specs.declared.walking.Taken.TheVariants as takes
+use Rattle.tool_records.specs.declared.walking.WalkEnd.{WalkEnd}
+use Rattle.tool_records.specs.Reading.{refused_ending}
+use Rattle.tool_records.specs.ReadsRecords.{ReadsRecords}
+use Rattle.tool_records.specs.Walk.{WalksToEnd, WalksToRefusal, WalksToItem, WalksToStop, WalksAs, Walks}
+use Rattle.tool_records.proofs.WalksRead.{told_last, ReadsRecords-items, ReadsRecords-item, ReadsRecords-last}
+use Rattle.tool_sink.specs.Sink.{answer_ending, answer_status, answer_line, IsSinkEnding, not_built_ending, takes_plain, sink_promise}
+use Rattle.tool_sink.specs.steps.Answering.{AnswersAs}
+use Rattle.tool_sink.specs.steps.Receiving.{Receives}
+use Rattle.tool_sink.proofs.Received.{HasReceivedAll, HasReceivedAll-walked, MeetsNotPlain-ends, stops_at, nothing_written, plain_so_far, reads_on}
 
 -- nothing was written
 nothing : (both : Bool) (input : List ℕ) (x y : OutputState) → y.written ≡ x.written → WritesPart (sink_promise both) input x y
 nothing both input x y e = record { part = []; is_part = inl refl; written = e ∙ sym (appended-nil x.written) }
+
+-- how the walk ended, once that is known
+pub walked_as : (decoder : Option DecoderData) (x y : Ends) (one other : WalkEnd) → one ≡ other → Walks (Receives decoder) x y (Ok one)
+    → WalksAs (Receives decoder) x y (Ok other)
+walked_as decoder x y one other e w = (subst (λ (end : WalkEnd). Walks (Receives decoder) x y (Ok end)) e w).as_far
 
 -- ---- an answer
 
@@ -63,7 +71,7 @@ right_ending both x y d q answer right = inl (record {
   session = d.session;
   list = q.list;
   file = q.file;
-  plain = q.plain;
+  plain = q.decoder_stands.plain;
   answer = answer;
   right = right;
   ending_is = refl;
@@ -114,143 +122,170 @@ answered both x y o p d (Err stops.WriteFault) q a = record {
 }
 answered both x y o p d (Err stops.ReadFault) q a = absurd a.written.as_far
 
-pub Attempts-answered : (both : Bool) (x y : InputState) (o p : OutputState) (d : DecoderData) (r : Result Finish Stop)
-    (q : HasReceivedAll x y d) → AnswersAs both d (packets_of q.list) o p r
-    → Attempts (sink_promise both) (record { input = x; output = o }) (record { input = y; output = p }) r
-Attempts-answered both x y o p d r q a =
-    record { input = q.bytes; told = q.told; read = q.reads; as_far = answered both x y o p d r q a }
+-- all was received, and what the decoder then says was written
+pub Attempts-answered : (both : Bool) (decoder : Option DecoderData) (d : DecoderData) (x y : Ends) (p : OutputState) (r : Result Finish Stop)
+    → decoder ≡ Some d → WalksToEnd (Receives decoder) x y
+    → ((packets : List Packet) → StandsFor packets d → AnswersAs both d packets y.output p r)
+    → Attempts (sink_promise both) x (record { input = y.input; output = p }) r
+Attempts-answered both decoder d x y p r e w answers =
+    let q = HasReceivedAll-walked decoder d x y e w in
+    let a : AnswersAs both d (packets_of q.list) x.output p r =
+    subst (λ (o : OutputState). AnswersAs both d (packets_of q.list) o p r) w.given.nothing_written
+    (answers (packets_of q.list) q.decoder_stands) in
+    record { input = q.bytes; told = q.told; read = q.reads; as_far = answered both x.input y.input x.output p d r q a }
 
--- ---- a halt
+-- ---- an ending that nothing is written for
 
--- the receiving halted at something that the definitions know: how the run ends by them
-record IsHalted (both : Bool) (x y : InputState) (halt : Halt) : Type 0 where
+-- a finish has this ending's status and line, or it could not be made
+abbrev pub FinishesBy : Ending → Result Finish Stop → Type 0
+FinishesBy ending (Ok finish) = (finish.status ≡ ending.status) × (string_bytes finish.line ≡ ending.line)
+FinishesBy ending (Err stop) = stop ≡ stops.Memory
+
+-- what a `?` returns that passes on that it could not be made
+pub FinishesBy-exit : (ending : Ending) (r : Result Finish Stop) → IsErrAnd r (λ y. y ≡ stops.Memory) → FinishesBy ending r
+FinishesBy-exit ending r is =
+    let w = err_from_is_err_and r is in subst (λ (z : Result Finish Stop). FinishesBy ending z) (sym w.1) w.2
+
+-- what was read makes the ending a right one, and nothing was written
+record HasEnding (both : Bool) (x y : Ends) (ending : Ending) : Type 0 where
   input : List ℕ
-  told : IsTold x.left input
-  ending : Ending
+  told : IsTold x.input.left input
   is_ending : IsSinkEnding both input ending
+  of_ending : IsOfEnding ending.status
   output : ending.output ≡ []
-  read : HasRead ending.reach x.left y.left
-  reads : ReadsRecords takes_plain x.left y.left
-  no_fault : y.faults ≡ x.faults
-  finish : (f : Finish) → HaltsAs halt (Ok f) → ((f.status ≡ ending.status) × (string_bytes f.line ≡ ending.line)) × IsOfEnding f.status
+  read : HasRead ending.reach x.input.left y.input.left
+  reads : ReadsRecords takes_plain x.input.left y.input.left
+  no_fault : y.input.faults ≡ x.input.faults
+  nothing_written : y.output ≡ x.output
 
-refused_halt : (both : Bool) (x y : InputState) (end : ReadEnd) → IsRefusedAfter x y end
-    → IsHalted both x y (halts.Input end)
-refused_halt both x y end q = record {
-  input = q.input;
-  told = q.told;
-  ending = refused_ending [] end;
-  is_ending = inr (inl (record { session = q.session; list = q.list; end = end; reading = q.reading; plain = q.plain; ending_is = refl }));
-  output = refl;
-  read = tt;
-  reads = q.reads;
-  no_fault = q.no_fault;
-  finish = λ f h. ((h.status, h.line), h.of_ending);
+lacks_memory : (both : Bool) (x y : Ends) (input : List ℕ) → IsTold x.input.left input → y.input.faults ≡ x.input.faults
+    → ReadsRecords takes_plain x.input.left y.input.left → y.output ≡ x.output → Attempts (sink_promise both) x y (Err stops.Memory)
+lacks_memory both x y input told no_fault reads same = record {
+  input = input;
+  told = told;
+  read = reads;
+  as_far = record {
+    input_fault = no_fault;
+    output = nothing both input x.output y.output (ap (λ (o : OutputState). o.written) same);
+    output_fault = ap (λ (o : OutputState). o.faults) same;
+  };
 }
 
-not_built_halt : (both : Bool) (x y : InputState) → MeetsNotPlain x y → IsHalted both x y halts.NotPlain
-not_built_halt both x y q = record {
+stops_so : (both : Bool) (x y : Ends) (stop other : Stop) → stop ≡ other → Attempts (sink_promise both) x y (Err other)
+    → Attempts (sink_promise both) x y (Err stop)
+stops_so both x y stop other e a = subst (λ (s : Stop). Attempts (sink_promise both) x y (Err s)) (sym e) a
+
+ends_by : (both : Bool) (x y : Ends) (ending : Ending) (r : Result Finish Stop) → HasEnding both x y ending → FinishesBy ending r
+    → Attempts (sink_promise both) x y r
+ends_by both x y ending (Ok finish) q e = record {
   input = q.input;
   told = q.told;
-  ending = not_built_ending;
-  is_ending = inr (inr (record {
-    session = q.session;
-    list = q.list;
-    at = q.at;
-    packet = q.packet;
-    front = q.front;
-    rest = q.rest;
-    is_front = q.is_front;
-    plain = q.plain;
-    not_plain = q.not_plain;
-    ending_is = refl;
-  }));
-  output = refl;
-  read = tt;
-  reads = q.reads;
-  no_fault = q.no_fault;
-  finish = λ f h. ((h.status, h.line), subst (λ (s : Status). IsOfEnding s) (sym h.status) tt);
+  read = q.reads;
+  as_far = record {
+    ending = ending;
+    is_ending = q.is_ending;
+    status_is = e.0;
+    of_ending = subst IsOfEnding (sym e.0) q.of_ending;
+    line_is = e.1;
+    read = q.read;
+    input_fault = q.no_fault;
+    output = ap (λ (o : OutputState). o.written) q.nothing_written ∙ sym (appended-nil x.output.written)
+        ∙ ap (appended x.output.written) (sym q.output);
+    output_fault = ap (λ (o : OutputState). o.faults) q.nothing_written;
+  };
 }
+ends_by both x y ending (Err stop) q e =
+    stops_so both x y stop stops.Memory e (lacks_memory both x y q.input q.told q.no_fault q.reads q.nothing_written)
 
--- a run that ends so
-ends_halted : (both : Bool) (x y : InputState) (o : OutputState) (halt : Halt) (r : Result Finish Stop) (q : IsHalted both x y halt)
-    → ((stop : Stop) → HaltsAs halt (Err stop) → stop ≡ stops.Memory) → HaltsAs halt r
-    → Attempts (sink_promise both) (record { input = x; output = o }) (record { input = y; output = o }) r
-ends_halted both x y o halt (Ok f) q memory e =
-    let told = q.finish f e in
+-- the input is refused, after plain packets alone
+pub Attempts-refused : (both : Bool) (decoder : Option DecoderData) (x y : Ends) (end : ReadEnd) (r : Result Finish Stop)
+    → WalksToRefusal (Receives decoder) x y end → FinishesBy (refused_ending [] end) r → Attempts (sink_promise both) x y r
+Attempts-refused both decoder x y end r w e =
+    let plain = plain_so_far decoder w.session w.list x.output y.output w.given in
+    ends_by both x y (refused_ending [] end) r (record {
+      input = w.input;
+      told = w.told;
+      is_ending = inr (inl (record { session = w.session; list = w.list; end = end; reading = w.reading; plain = plain; ending_is = refl }));
+      of_ending = w.of_input;
+      output = refl;
+      read = tt;
+      reads = ReadsRecords-items takes_plain w.session w.list x.input.left y.input.left (reads_on w.session w.list plain) w.reads;
+      no_fault = w.no_fault;
+      nothing_written = nothing_written decoder w.session w.list x.output y.output w.given;
+    }) e
+
+-- the first packet came that isn't plain
+pub Attempts-not_built : (both : Bool) (decoder : Option DecoderData) (x y : Ends) (r : Result Finish Stop)
+    → WalksToItem (Receives decoder) x y (Ok takes.Halts) → FinishesBy not_built_ending r → Attempts (sink_promise both) x y r
+Attempts-not_built both decoder x y r w e =
+    let meets = MeetsNotPlain-ends w.session w.list w.item w.given.as_far in
+    let front : List ℕ = w.reads.front ++ record_of w.session w.item in
+    let told = told_last w.reads in
+    ends_by both x y not_built_ending r (record {
+      input = front ++ told.0;
+      told = told.1;
+      is_ending = inr (inr (record {
+        session = w.session;
+        list = w.list;
+        at = meets.not_plain.at;
+        packet = meets.not_plain.packet;
+        front = front;
+        rest = told.0;
+        is_front = record {
+          file = subst (λ (i : Item). IsPacketFile w.session (w.list ++ i ∷ []) front) meets.not_plain.item_is w.reads.file;
+          split = refl;
+        };
+        plain = meets.plain;
+        not_plain = meets.not_plain.not_plain;
+        ending_is = refl;
+      }));
+      of_ending = tt;
+      output = refl;
+      read = tt;
+      reads = ReadsRecords-last takes_plain w.session w.list w.item x.input.left y.input.left meets.plain
+          (stops_at w.session w.list w.item meets.not_plain) w.reads;
+      no_fault = w.no_fault;
+      nothing_written = w.given.nothing_written;
+    }) e
+
+-- ---- a stop
+
+-- memory ran out for a packet
+stopped_at_item : (both : Bool) (decoder : Option DecoderData) (x y : Ends) (stop : Stop) → WalksToItem (Receives decoder) x y (Err stop)
+    → Attempts (sink_promise both) x y (Err stop)
+stopped_at_item both decoder x y stop w =
+    stops_so both x y stop stops.Memory w.given.as_far.0
+    (lacks_memory both x y (told_or x.input.left []) (IsTold-told_or x.input.left []) w.no_fault
+    (ReadsRecords-item takes_plain w.session w.list w.item x.input.left y.input.left w.given.as_far.1 w.reads) w.given.nothing_written)
+
+-- a read failed, or memory ran out for a record
+stopped_reading : (both : Bool) (decoder : Option DecoderData) (x y : Ends) (stop : Stop) → WalksToStop (Receives decoder) x y stop
+    → Attempts (sink_promise both) x y (Err stop)
+stopped_reading both decoder x y stops.Memory w =
+    let plain = plain_so_far decoder w.session w.list x.output y.output w.given in
+    lacks_memory both x y (told_or x.input.left []) (IsTold-told_or x.input.left []) w.faults
+    (ReadsRecords-items takes_plain w.session w.list x.input.left y.input.left (reads_on w.session w.list plain) w.reads)
+    (nothing_written decoder w.session w.list x.output y.output w.given)
+stopped_reading both decoder x y stops.ReadFault w =
+    let plain = plain_so_far decoder w.session w.list x.output y.output w.given in
+    let same : y.output ≡ x.output = nothing_written decoder w.session w.list x.output y.output w.given in
     record {
-      input = q.input;
-      told = q.told;
-      read = q.reads;
+      input = told_or x.input.left [];
+      told = IsTold-told_or x.input.left [];
+      read = ReadsRecords-items takes_plain w.session w.list x.input.left y.input.left (reads_on w.session w.list plain) w.reads;
       as_far = record {
-        ending = q.ending;
-        is_ending = q.is_ending;
-        status_is = told.0.0;
-        of_ending = told.1;
-        line_is = told.0.1;
-        read = q.read;
-        input_fault = q.no_fault;
-        output = sym (appended-nil o.written) ∙ ap (appended o.written) (sym q.output);
-        output_fault = refl;
+        input_fault = w.faults;
+        output = record {
+          part = [];
+          is_part = refl;
+          written = ap (λ (o : OutputState). o.written) same ∙ sym (appended-nil x.output.written);
+        };
+        output_fault = ap (λ (o : OutputState). o.faults) same;
       };
     }
-ends_halted both x y o halt (Err stop) q memory e =
-    subst (λ (s : Stop). Attempts (sink_promise both) (record { input = x; output = o }) (record { input = y; output = o }) (Err s))
-    (sym (memory stop e)) (record {
-      input = q.input;
-      told = q.told;
-      read = q.reads;
-      as_far = record { input_fault = q.no_fault; output = nothing both q.input o o refl; output_fault = refl };
-    })
+stopped_reading both decoder x y stops.WriteFault w = absurd w.faults
 
--- a read that failed
-ends_faulted : (both : Bool) (x y : InputState) (o : OutputState) (r : Result Finish Stop) → Rose x.faults y.faults
-    → ReadsRecords takes_plain x.left y.left → HaltsAs (halts.Input ends.ReadFault) r
-    → Attempts (sink_promise both) (record { input = x; output = o }) (record { input = y; output = o }) r
-ends_faulted both x y o (Ok f) rose reads e = absurd (subst (λ (s : Status). IsOfEnding s) e.status e.of_ending)
-ends_faulted both x y o (Err stop) rose reads e =
-    subst (λ (s : Stop). Attempts (sink_promise both) (record { input = x; output = o }) (record { input = y; output = o }) (Err s))
-    (sym e) (record {
-      input = told_or x.left [];
-      told = IsTold-told_or x.left [];
-      read = reads;
-      as_far = record {
-        input_fault = rose;
-        output = record { part = []; is_part = refl; written = sym (appended-nil o.written) };
-        output_fault = refl;
-      };
-    })
-
--- want of memory
-ends_lacking : (both : Bool) (x y : InputState) (o : OutputState) (r : Result Finish Stop) → y.faults ≡ x.faults
-    → ReadsRecords takes_plain x.left y.left → HaltsAs (halts.Input ends.Memory) r
-    → Attempts (sink_promise both) (record { input = x; output = o }) (record { input = y; output = o }) r
-ends_lacking both x y o (Ok f) same reads e = absurd (subst (λ (s : Status). IsOfEnding s) e.status e.of_ending)
-ends_lacking both x y o (Err stop) same reads e =
-    subst (λ (s : Stop). Attempts (sink_promise both) (record { input = x; output = o }) (record { input = y; output = o }) (Err s))
-    (sym e) (record {
-      input = told_or x.left [];
-      told = IsTold-told_or x.left [];
-      read = reads;
-      as_far = record { input_fault = same; output = nothing both (told_or x.left []) o o refl; output_fault = refl };
-    })
-
--- a run whose receiving halted
-pub Attempts-halted : (both : Bool) (x y : InputState) (o : OutputState) (halt : Halt) (r : Result Finish Stop) → Halts x y halt → HaltsAs halt r
-    → Attempts (sink_promise both) (record { input = x; output = o }) (record { input = y; output = o }) r
-Attempts-halted both x y o halts.NotPlain r h e =
-    ends_halted both x y o halts.NotPlain r (not_built_halt both x y h) (λ stop k. k) e
-Attempts-halted both x y o (halts.Input ends.Memory) r h e = ends_lacking both x y o r h.0 h.1 e
-Attempts-halted both x y o (halts.Input ends.ReadFault) r h e = ends_faulted both x y o r h.0 h.1 e
-Attempts-halted both x y o (halts.Input ends.NoHeader) r h e =
-    ends_halted both x y o (halts.Input ends.NoHeader) r (refused_halt both x y ends.NoHeader h) (λ stop k. k) e
-Attempts-halted both x y o (halts.Input (ends.BadHeader field)) r h e =
-    ends_halted both x y o (halts.Input (ends.BadHeader field)) r (refused_halt both x y (ends.BadHeader field) h) (λ stop k. k) e
-Attempts-halted both x y o (halts.Input (ends.BadTag at byte)) r h e =
-    ends_halted both x y o (halts.Input (ends.BadTag at byte)) r (refused_halt both x y (ends.BadTag at byte) h) (λ stop k. k) e
-Attempts-halted both x y o (halts.Input (ends.OtherSession at)) r h e =
-    ends_halted both x y o (halts.Input (ends.OtherSession at)) r (refused_halt both x y (ends.OtherSession at) h) (λ stop k. k) e
-Attempts-halted both x y o (halts.Input (ends.Truncated at)) r h e =
-    ends_halted both x y o (halts.Input (ends.Truncated at)) r (refused_halt both x y (ends.Truncated at) h) (λ stop k. k) e
-Attempts-halted both x y o (halts.Input ends.TooManyRecords) r h e =
-    ends_halted both x y o (halts.Input ends.TooManyRecords) r (refused_halt both x y ends.TooManyRecords h) (λ stop k. k) e
+pub Attempts-stopped : (both : Bool) (decoder : Option DecoderData) (x y : Ends) (stop : Stop)
+    → WalksToItem (Receives decoder) x y (Err stop) ⊎ WalksToStop (Receives decoder) x y stop → Attempts (sink_promise both) x y (Err stop)
+Attempts-stopped both decoder x y stop (inl w) = stopped_at_item both decoder x y stop w
+Attempts-stopped both decoder x y stop (inr w) = stopped_reading both decoder x y stop w

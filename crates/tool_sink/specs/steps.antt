@@ -1,3 +1,2 @@
 pub mod Receiving
 pub mod Answering
-pub mod Halting

@@ -2,7 +2,7 @@
 #![tactic(auto)]
 
 mod answers;
-mod receive;
+mod receiving;
 mod sinking;
 
 pub use sinking::sink;

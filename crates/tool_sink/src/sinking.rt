@@ -6,10 +6,9 @@ ghost use Rattle.tool_run.specs.Attempt.{Attempts};
 ghost use Rattle.tool_sink.specs.steps.Answering.{AnswersAs};
 ghost use Rattle.bats_words.specs.Options.{HasWorkers};
 ghost use Rattle.tool_sink.specs.Sink.{answer_line, answer_status, sink_promise};
-ghost use Rattle.tool_sink.specs.steps.Halting.{HaltsAs};
 
 use crate::answers::{answer_text, status_of_answer, write_answer};
-use crate::receive::{Halt, receive};
+use crate::receiving::{Counters, Receiver};
 use bats_decode::{Decoder, Solved};
 use bats_io::{Sink, Source};
 use bats_model::Answer;
@@ -17,7 +16,7 @@ use gf_rows::Steps;
 use std::alloc::{AllocError, Global};
 use std::sync::ledger::Ledger;
 use std::thread::Threads;
-use tool_records::refused;
+use tool_records::{WalkEnd, refused, walk};
 use tool_run::{Finish, Status, Stop, refuse};
 
 // How the run ends that found this answer.
@@ -40,8 +39,7 @@ fn answer<R: Threads + Sync, O: Sink, C: Ledger, L: Ledger>(
     both: bool,
     decoder: Decoder,
     output: &mut O,
-    coef_steps: &mut Steps<C>,
-    steps: &mut Steps<L>,
+    counters: &mut Counters<C, L>,
 ) -> Result<Finish, Stop>
     requires { HasWorkers workers }
     ensures { (packets : List Packet) → StandsFor packets decoder → AnswersAs both decoder packets
@@ -49,20 +47,10 @@ fn answer<R: Threads + Sync, O: Sink, C: Ledger, L: Ledger>(
         (O.state output.new)
         result }
 {
-    let solved = decoder.solve(rt, workers, coef_steps, steps)?;
+    let solved = decoder.solve(rt, workers, counters.coef_steps, counters.steps)?;
     let finish = finish_of(alloc, &solved)?;
     write_answer(output, both, &solved.answer)?;
     Ok(finish)
-}
-
-// How the run ends whose receiving halts: nothing is written.
-fn finish_of_halt(alloc: Global, halt: Halt) -> Result<Finish, Stop>
-    ensures { HaltsAs halt result }
-{
-    match halt {
-        Halt::Input(end) => refused(alloc, end),
-        Halt::NotPlain => Ok(refuse(alloc, Status::NotBuilt, "bats: not built\n")?),
-    }
 }
 
 /// Does `sink`: receives the packets of the input, and writes the file that they give, or says why there is none. The
@@ -83,8 +71,15 @@ pub fn sink<R: Threads + Sync, S: Source, O: Sink, C: Ledger, L: Ledger>(
         (record { input = S.state input.new; output = O.state output.new })
         result }
 {
-    match receive(alloc, input, coef_steps, steps) {
-        Ok(decoder) => answer(rt, alloc, workers, both, decoder, output, coef_steps, steps),
-        Err(halt) => finish_of_halt(alloc, halt),
+    let mut receiver = Receiver::new();
+    let mut counters = Counters { coef_steps, steps };
+    match walk(alloc, input, &mut receiver, output, &mut counters) {
+        Ok(WalkEnd::Whole) => {
+            let decoder = receiver.into_decoder();
+            answer(rt, alloc, workers, both, decoder, output, &mut counters)
+        }
+        Ok(WalkEnd::Refused(end)) => Ok(refused(alloc, end)?),
+        Ok(WalkEnd::Halted) => Ok(refuse(alloc, Status::NotBuilt, "bats: not built\n")?),
+        Err(stop) => Err(stop),
     }
 }

@@ -2,7 +2,7 @@
 use Rattle.std.specs.Prelude.{ℕ, ◌*◌, ◌+◌, nat_lt, if◌then◌else◌, List, ◌++◌, length, codes, flat_map}
 use Rattle.std.specs.List.{range_with_len}
 use Rattle.std.specs.Fmt.{decimal}
-use Rattle.bats_model.specs.Session.{SessionData, symbols_of}
+use Rattle.bats_model.specs.Session.{SessionData, symbols_of, max_symbols}
 use Rattle.bats_model.specs.Batch.{batch_of}
 use Rattle.bats_model.specs.Coded.{coded_payload, unit_vector}
 use Rattle.bats_model.specs.Records.{header_record, packet_record}
@@ -42,7 +42,7 @@ source_line session batches =
 
 -- how many bytes of a file `source` reads at most: those of 4,096 symbols, and one more
 abbrev pub most_read : SourceOptions → ℕ
-most_read options = 4096 * options.t + 1
+most_read options = max_symbols * options.t + 1
 
 -- the notes line of a file that has too many symbols, and the ending on it
 abbrev pub symbols_line : List ℕ
@@ -55,7 +55,7 @@ symbols_ending = refusal statuses.Limit symbols_line in_part
 unfoldable pub source_ending : SourceOptions → List ℕ → Ending
 source_ending options file =
     let session = session_for options (length file) in
-    if nat_lt 4096 (symbols_of session) then symbols_ending
+    if nat_lt max_symbols (symbols_of session) then symbols_ending
     else record {
       status = statuses.Done;
       output = source_output session file options.first options.batches;

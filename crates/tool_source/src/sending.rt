@@ -1,6 +1,6 @@
 ghost use Rattle.std.specs.Prelude.{◌≡◌, ◌+◌, ◌*◌, ◌^◌, ◌<◌, ◌≤◌, ℕ, List, length, string_bytes, None, IfSome, IfOk};
 ghost use Rattle.std.specs.Result.{result_err};
-ghost use Rattle.bats_model.specs.Session.{symbols_of};
+ghost use Rattle.bats_model.specs.Session.{symbols_of, max_symbols};
 ghost use Rattle.bats_model.specs.Batch.{batch_of};
 ghost use Rattle.tool_source.specs.Source.{coded_record, batch_records, packet_records, source_output, source_line, counts_line, source_promise};
 ghost use Rattle.bats_words.specs.Options.{HasRanges};
@@ -14,15 +14,12 @@ ghost use Rattle.bats_io.specs.Streams.{InputState, OutputState};
 
 use bats_encoder::Encoder;
 use bats_io::{Sink, Source};
-use bats_model::{Batch, Bytes, Session};
+use bats_model::{Batch, Bytes, MAX_SYMBOLS, Session};
 use bats_sampler::batch;
 use bats_words::SourceOptions;
 use std::alloc::{AllocError, Global};
 use tool_records::{write_header, write_packet};
 use tool_run::{Finish, Status, Stop, read_file, refuse};
-
-// Symbols of a file, at most.
-const MAX_SYMBOLS: usize = 4096;
 
 // Writes the record of coded packet j of a batch.
 fn write_coded<O: Sink>(
@@ -141,8 +138,8 @@ fn line_of_session(alloc: Global, session: &Session, batches: u32) -> Result<Str
 fn session_of(options: &SourceOptions, length: usize) -> Option<Session>
     requires { HasRanges options.now }
     ensures some { IfSome result (λ session. session ≡ session_for options.now length) }
-    ensures within { IfSome result (λ session. symbols_of (session_for options.now length) ≤ 4096) }
-    ensures none { result ≡ None → 4096 < symbols_of (session_for options.now length) }
+    ensures within { IfSome result (λ session. symbols_of (session_for options.now length) ≤ max_symbols) }
+    ensures none { result ≡ None → max_symbols < symbols_of (session_for options.now length) }
 {
     let length = length as u64;
     let SourceOptions {
@@ -198,8 +195,8 @@ fn send<O: Sink>(
 // How the run ends whose file has too many symbols: nothing is written.
 fn too_long(alloc: Global) -> Result<Finish, Stop>
     ensures { (options : SourceOptions) (before after : InputState) (output : OutputState) (file : List ℕ)
-        → HasRanges options → ReadsUpTo before after (4096 * options.t) file
-        → 4096 < symbols_of (session_for options (length file))
+        → HasRanges options → ReadsUpTo before after (max_symbols * options.t) file
+        → max_symbols < symbols_of (session_for options (length file))
         → Attempts (source_promise options)
         (record { input = before; output = output })
         (record { input = after; output = output })
@@ -221,7 +218,7 @@ pub fn source<S: Source, O: Sink>(
         (record { input = S.state input.new; output = O.state output.new })
         result }
 {
-    let file = read_file(alloc, input, MAX_SYMBOLS * options.t as usize)?;
+    let file = read_file(alloc, input, MAX_SYMBOLS as usize * options.t as usize)?;
     match session_of(options, file.len()) {
         Some(session) => send(alloc, options, session, file, output),
         None => too_long(alloc),

@@ -1,4 +1,4 @@
 pub mod ShowLines
-pub mod ShowSteps
+pub mod ShowWalks
 pub mod KeptItems
 pub mod SentBatches

@@ -1,29 +1,27 @@
-ghost use Rattle.std.specs.Prelude.{◌≡◌, ◌+◌, ◌-◌, ◌≤◌, ◌<◌, ◌^◌, [], ◌∷◌, ◌++◌, length, if◌then◌else◌, string_bytes, Some, None, Ok, IsSome, IfOk};
+//! The command `show`.
+ghost use Rattle.std.specs.Prelude.{◌≡◌, ◌+◌, ◌-◌, ◌<◌, ◌^◌, [], ◌∷◌, ◌++◌, length, if◌then◌else◌, string_bytes, IfOk};
 ghost use Rattle.std.specs.Result.{result_err};
-ghost use Rattle.bats_model.specs.PacketFile.{most_records, packets_of};
-ghost use Rattle.bats_model.specs.Session.{SessionData};
+ghost use Rattle.bats_model.specs.PacketFile.{packets_of};
 ghost use Rattle.tool_run.specs.declared.status.Status.TheVariants as statuses;
 ghost use Rattle.tool_run.specs.Attempt.{Attempts};
-ghost use Rattle.tool_stream.specs.Show.{header_line, packet_line, item_line, show_line, show_promise};
-ghost use Rattle.tool_stream.specs.steps.Shown.{HasShown, StepsTo, sizes_part, header_rest};
-ghost use Rattle.tool_run.specs.Streams.{Ends};
 ghost use Rattle.tool_run.specs.Writes.{Writes};
+ghost use Rattle.tool_stream.specs.Show.{header_line, packet_line, item_line, show_line, show_promise};
+ghost use Rattle.tool_stream.specs.steps.Shown.{HasShown, sizes_part, header_rest};
 
-use bats_format::Reader;
 use bats_io::{Sink, Source};
 use bats_model::{Item, Packet, Session};
 use std::alloc::{AllocError, Global};
-use tool_records::refused;
+use tool_records::{Taken, Taker, WalkEnd, refused, walk};
 use tool_run::{Finish, Status, Stop, write_bytes};
 
-// How many headers and how many packets were shown.
+// The items that were shown: how many headers and how many packets.
 #[derive(Debug, Drop)]
-struct Counts {
+struct Shown {
     headers: u32,
     packets: u32,
 }
 
-impl Counts {
+impl Shown {
     // Counts an item.
     fn add(&mut self, item: &Item)
         requires { self.old.headers + self.old.packets < 2 ^ 32 - 1 }
@@ -130,21 +128,21 @@ fn write_item<O: Sink>(
     write_bytes(output, line.as_bytes())
 }
 
-// Writes the line of an item that this reader gave.
-fn show_item<O: Sink>(
-    alloc: Global,
-    reader: &Reader,
-    output: &mut O,
-    item: &Item,
-) -> Result<(), Stop>
-    requires { IsSome reader.now.session }
-    ensures { (session : SessionData) → reader.now.session ≡ Some session
-        → Writes (O.state output.old) (O.state output.new)
-        (item_line session item.now) (result_err result) }
-{
-    match reader.session() {
-        Some(session) => write_item(alloc, session, output, item),
-        None => unreachable!(),
+impl Taker<()> for Shown {
+    ghost gives = { λ first given now tools session list start output taken. HasShown now.headers now.packets session list start output taken };
+
+    // Writes the line of an item, and counts it.
+    fn take<O: Sink>(
+        &mut self,
+        alloc: Global,
+        session: &Session,
+        item: Item,
+        output: &mut O,
+        _tools: &mut (),
+    ) -> Result<Taken, Stop> {
+        write_item(alloc, session, output, &item)?;
+        self.add(&item);
+        Ok(Taken::GoesOn)
     }
 }
 
@@ -156,46 +154,15 @@ fn counts_text(alloc: Global, headers: u32, packets: u32) -> Result<String, Allo
 }
 
 // How a run ends that has shown all of the input.
-fn done(alloc: Global, counts: &Counts) -> Result<Finish, AllocError>
+fn done(alloc: Global, shown: &Shown) -> Result<Finish, AllocError>
     ensures status { IfOk result (λ finish. finish.status ≡ statuses.Done) }
-    ensures line { IfOk result (λ finish. string_bytes finish.line ≡ show_line counts.now.headers counts.now.packets) }
+    ensures line { IfOk result (λ finish. string_bytes finish.line ≡ show_line shown.now.headers shown.now.packets) }
 {
-    let line = counts_text(alloc, counts.headers, counts.packets)?;
+    let line = counts_text(alloc, shown.headers, shown.packets)?;
     Ok(Finish {
         status: Status::Done,
         line,
     })
-}
-
-// Reads a record and shows it. The answer is how the run ends, once it does.
-fn show_next<S: Source, O: Sink>(
-    alloc: Global,
-    reader: &mut Reader,
-    counts: &mut Counts,
-    input: &mut S,
-    output: &mut O,
-) -> Result<Option<Finish>, Stop>
-    requires { counts.old.headers + counts.old.packets ≡ reader.old.records }
-    ensures records { result ≡ Ok None → reader.new.records ≡ reader.old.records + 1 }
-    ensures few { result ≡ Ok None → reader.new.records ≤ most_records }
-    ensures counted { result ≡ Ok None → counts.new.headers + counts.new.packets ≡ reader.new.records }
-    ensures shown { (start : Ends)
-        → HasShown start
-        (record { input = S.state input.old; output = O.state output.old })
-        reader.old counts.old.headers counts.old.packets
-        → StepsTo start
-        (record { input = S.state input.new; output = O.state output.new })
-        reader.new counts.new.headers counts.new.packets result }
-{
-    match reader.next(alloc, input) {
-        Ok(Some(item)) => {
-            show_item(alloc, reader, output, &item)?;
-            counts.add(&item);
-            Ok(None)
-        }
-        Ok(None) => Ok(Some(done(alloc, counts)?)),
-        Err(end) => Ok(Some(refused(alloc, end)?)),
-    }
 }
 
 /// Does `show`: writes a line for each record of the input as it is read.
@@ -209,14 +176,14 @@ pub fn show<S: Source, O: Sink>(
         (record { input = S.state input.new; output = O.state output.new })
         result }
 {
-    let mut reader = Reader::new();
-    let mut counts = Counts {
+    let mut shown = Shown {
         headers: 0,
         packets: 0,
     };
-    'records: loop {
-        if let Some(finish) = show_next(alloc, &mut reader, &mut counts, input, output)? {
-            return Ok(finish);
-        }
+    match walk(alloc, input, &mut shown, output, &mut ())? {
+        WalkEnd::Whole => Ok(done(alloc, &shown)?),
+        WalkEnd::Refused(end) => Ok(refused(alloc, end)?),
+        // each item is shown
+        WalkEnd::Halted => unreachable!(),
     }
 }

@@ -1,38 +1,30 @@
--- What `show` has done between two records, and how far one step takes it.
-use Rattle.std.specs.Prelude.{ℕ, ◌≡◌, ◌+◌, List, ◌++◌, length, codes, Option, Some, None, Result, Ok, Err}
+-- What `show` has done of the items that were read, and the parts of a line.
+use Rattle.std.specs.Prelude.{ℕ, ◌≡◌, ◌+◌, List, ◌++◌, length, codes, None, Some, Result, Ok, Err}
 use Rattle.std.specs.Fmt.{decimal}
-use Rattle.bats_io.specs.Sink.{Appends}
-use Rattle.bats_io.specs.Streams.{IsRead}
-use Rattle.bats_format.specs.Reader.{ReaderData, StandsFor, IsOpen}
+use Rattle.bats_io.specs.Streams.{OutputState}
+use Rattle.bats_model.specs.Session.{SessionData}
 use Rattle.bats_model.specs.PacketFile.{packets_of}
 use Rattle.bats_model.specs.declared.item.Item.{Item}
-use Rattle.tool_run.specs.declared.finish.Finish.{Finish}
 use Rattle.tool_run.specs.declared.stop.Stop.{Stop}
-use Rattle.tool_run.specs.Streams.{Ends}
-use Rattle.tool_stream.specs.Show.{lines_read, show_promise}
-use Rattle.tool_run.specs.Attempt.{Attempts}
+use Rattle.tool_run.specs.Writes.{Writes}
+use Rattle.tool_records.specs.declared.walking.Taken.{Taken}
+use Rattle.tool_records.specs.declared.walking.Taken.TheVariants as takes
+use Rattle.tool_stream.specs.Show.{item_lines}
 
--- the items that were read so far are counted, and the output has their lines
-pub record HasShown (start now : Ends) (reader : ReaderData) (headers packets : ℕ) : Type 0 where
-  pub bytes : List ℕ
-  pub list : List Item
-  pub stands : StandsFor bytes list reader
-  pub is_open : IsOpen reader
+-- the items are counted, and their lines were written
+pub record AreShown (headers packets : ℕ) (session : SessionData) (list : List Item) (start now : OutputState) : Type 0 where
   pub counted : headers + packets ≡ length list
   pub packets_are : packets ≡ length (packets_of list)
-  pub read : IsRead start.input.left now.input.left bytes
-  pub input_fault : now.input.faults ≡ start.input.faults
-  pub output : Appends start.output.written now.output.written (lines_read reader.session list)
-  pub output_fault : now.output.faults ≡ start.output.faults
+  pub written : Writes start now (item_lines session list) None
 
--- one more item was shown, or all was, or the run was cut short
-abbrev pub StepsAs : Ends → Ends → ReaderData → ℕ → ℕ → Result (Option Finish) Stop → Type 0
-StepsAs start now reader headers packets (Ok None) = HasShown start now reader headers packets
-StepsAs start now reader headers packets (Ok (Some finish)) = Attempts show_promise start now (Ok finish)
-StepsAs start now reader headers packets (Err stop) = Attempts show_promise start now (Err stop)
+-- so many headers and packets were shown, or the last line was cut short; it halts at no item
+abbrev pub ShownAs : ℕ → ℕ → SessionData → List Item → OutputState → OutputState → Result Taken Stop → Type 0
+ShownAs headers packets session list start now (Ok takes.GoesOn) = AreShown headers packets session list start now
+ShownAs headers packets session list start now (Ok takes.Halts) = ⊥
+ShownAs headers packets session list start now (Err stop) = Writes start now (item_lines session list) (Some stop)
 
-pub record StepsTo (start now : Ends) (reader : ReaderData) (headers packets : ℕ) (result : Result (Option Finish) Stop) : Type 0 where
-  pub as_far : StepsAs start now reader headers packets result
+pub record HasShown (headers packets : ℕ) (session : SessionData) (list : List Item) (start now : OutputState) (taken : Result Taken Stop) : Type 0 where
+  pub as_far : ShownAs headers packets session list start now taken
 
 -- the front of a header's line: its offset, and the sizes of its session
 abbrev pub sizes_part : ℕ → ℕ → ℕ → ℕ → ℕ → List ℕ

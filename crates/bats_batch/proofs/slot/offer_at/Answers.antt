@@ -1,5 +1,5 @@
 -- The batch's slot has the new basis, and the others are as before.
-use Rattle.std.proofs.Common.{sym, subst, List, get_or}
+use Rattle.std.proofs.Common.{ap, sym, subst, List, get_or, length, arith}
 use Rattle.std.specs.Prelude.{IsFalse}
 use Rattle.bats_model.specs.declared.packet.Packet.{Packet}
 use Rattle.bats_model.specs.declared.taken.Taken.TheVariants.{Kept}
@@ -24,3 +24,15 @@ returns-clause-full g c =
     (IsFalse c.args.has_room × IsTaken (get_or c.args.slots.now c.args.place c.index-slots-place.result).basis.kept packet Kept)
     (IsFalse c.args.has_room × IsTaken (kept_at (batches_in c.args.slots.now) packet.batch) packet Kept)
     (λ both. (both.0, subst (λ (ps : List Packet). IsTaken ps packet Kept) (sym kept) both.1)) c.offer_within.ensures.full
+
+pub returns-clause-coef_steps_of_rank : goal.returns-clause-coef_steps_of_rank
+returns-clause-coef_steps_of_rank g c =
+    let kept = kept_at-slot c.args.session.now c.args.slots.now c.args.place c.index-slots-place.result c.offer_within.new.basis c.args.packet.now
+    c.requires.slots c.requires.place in
+    omega (arith, ap (λ (ps : List Packet). length ps) kept, c.offer_within.ensures.coef_steps_of_rank)
+
+pub returns-clause-steps_of_rank : goal.returns-clause-steps_of_rank
+returns-clause-steps_of_rank g c =
+    let kept = kept_at-slot c.args.session.now c.args.slots.now c.args.place c.index-slots-place.result c.offer_within.new.basis c.args.packet.now
+    c.requires.slots c.requires.place in
+    omega (arith, ap (λ (ps : List Packet). length ps) kept, c.offer_within.ensures.steps_of_rank)

@@ -1,5 +1,5 @@
 -- The batch is held from now on where the packet is kept, and the others are as before.
-use Rattle.std.proofs.Common.{◌∙◌, ap, sym, subst, List, []}
+use Rattle.std.proofs.Common.{◌∙◌, ap, sym, subst, List, [], length, arith}
 use Rattle.std.specs.Prelude.{IsFalse}
 use Rattle.bats_model.specs.declared.packet.Packet.{Packet}
 use Rattle.bats_model.specs.declared.taken.Taken.TheVariants.{Kept}
@@ -43,3 +43,35 @@ returns-in_ok-add_at-in-Kept-clause-takes g c =
     (facts.t ∙ ap (λ (basis : BasisData). basis.t) empty ∙ c.t.ensures.value)
     (facts.kept ∙ ap (λ (ps : List Packet). kept_with ps packet c.in_ok-taken.taken) kept ∙ ap (kept_with [] packet) c.in-Kept.is)
     c.in-Kept.is)
+
+pub returns-in_err-taken-clause-coef_steps_of_rank : goal.returns-in_err-taken-clause-coef_steps_of_rank
+returns-in_err-taken-clause-coef_steps_of_rank g c =
+    omega (arith, ap (λ (basis : BasisData). length basis.kept) c.new-basis.ensures.value, c.in_err-taken.ensures.coef_steps_of_rank)
+
+pub returns-in_err-taken-clause-steps_of_rank : goal.returns-in_err-taken-clause-steps_of_rank
+returns-in_err-taken-clause-steps_of_rank g c =
+    omega (arith, ap (λ (basis : BasisData). length basis.kept) c.new-basis.ensures.value, c.in_err-taken.ensures.steps_of_rank)
+
+pub returns-in_default-clause-coef_steps_of_rank : goal.returns-in_default-clause-coef_steps_of_rank
+returns-in_default-clause-coef_steps_of_rank g c =
+    omega (arith, ap (λ (basis : BasisData). length basis.kept) c.new-basis.ensures.value, c.in_ok-taken.ensures.coef_steps_of_rank)
+
+pub returns-in_default-clause-steps_of_rank : goal.returns-in_default-clause-steps_of_rank
+returns-in_default-clause-steps_of_rank g c =
+    omega (arith, ap (λ (basis : BasisData). length basis.kept) c.new-basis.ensures.value, c.in_ok-taken.ensures.steps_of_rank)
+
+pub returns-in_err-add_at-in-Kept-clause-coef_steps_of_rank : goal.returns-in_err-add_at-in-Kept-clause-coef_steps_of_rank
+returns-in_err-add_at-in-Kept-clause-coef_steps_of_rank g c =
+    omega (arith, ap (λ (basis : BasisData). length basis.kept) c.new-basis.ensures.value, c.in_ok-taken.ensures.coef_steps_of_rank)
+
+pub returns-in_err-add_at-in-Kept-clause-steps_of_rank : goal.returns-in_err-add_at-in-Kept-clause-steps_of_rank
+returns-in_err-add_at-in-Kept-clause-steps_of_rank g c =
+    omega (arith, ap (λ (basis : BasisData). length basis.kept) c.new-basis.ensures.value, c.in_ok-taken.ensures.steps_of_rank)
+
+pub returns-in_ok-add_at-in-Kept-clause-coef_steps_of_rank : goal.returns-in_ok-add_at-in-Kept-clause-coef_steps_of_rank
+returns-in_ok-add_at-in-Kept-clause-coef_steps_of_rank g c =
+    omega (arith, ap (λ (basis : BasisData). length basis.kept) c.new-basis.ensures.value, c.in_ok-taken.ensures.coef_steps_of_rank)
+
+pub returns-in_ok-add_at-in-Kept-clause-steps_of_rank : goal.returns-in_ok-add_at-in-Kept-clause-steps_of_rank
+returns-in_ok-add_at-in-Kept-clause-steps_of_rank g c =
+    omega (arith, ap (λ (basis : BasisData). length basis.kept) c.new-basis.ensures.value, c.in_ok-taken.ensures.steps_of_rank)

@@ -2,6 +2,5 @@ use Rattle.tool_laws.proofs.SentPackets.{sends_as_promised}
 use Rattle.tool_laws.proofs.laws.source_sends_a_packet_file.Goals as goal
 
 pub returns : goal.returns
-returns c = λ options file ending ranges seed seed_bytes bytes symbols is.
-    sends_as_promised options file ending
-    (record { ranges = ranges; seed = seed; seed_bytes = seed_bytes; bytes = bytes; symbols = symbols }) is
+returns c = λ options file ending ranges seed bytes symbols.
+    sends_as_promised options file ending (record { ranges = ranges; seed = seed; bytes = bytes; symbols = symbols })

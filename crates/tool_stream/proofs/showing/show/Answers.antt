@@ -1,14 +1,52 @@
-use Rattle.std.proofs.Common.{sym, ap}
-use Rattle.bats_format.specs.Reader.{ReaderData}
-use Rattle.tool_stream.proofs.ShowSteps.{HasShown-fresh, Attempts-finish}
+use Rattle.std.proofs.Common.{Ok, subst}
+use Rattle.tool_run.specs.declared.stop.Stop.TheVariants as stops
+use Rattle.tool_run.specs.Streams.{Ends}
+use Rattle.tool_run.proofs.Attempts.{Attempts-exit}
+use Rattle.tool_records.specs.declared.walking.WalkEnd.{WalkEnd}
+use Rattle.tool_records.specs.Walk.{Walks}
+use Rattle.tool_stream.specs.Show.{show_promise}
+use Rattle.tool_stream.specs.steps.Shown.{HasShown}
+use Rattle.tool_stream.proofs.ShowWalks.{HasShown-nothing, Attempts-stopped, Attempts-unsaid, Attempts-whole, Attempts-refused}
 use Rattle.tool_stream.proofs.showing.show.Goals as goal
 
-pub records-init : goal.records-init
-records-init g c = record {
-  counted = sym (ap (λ (reader : ReaderData). reader.records) c.new-reader.ensures.fresh);
-  shown = HasShown-fresh _ c.new-reader.result c.new-reader.ensures.nothing_read c.new-reader.ensures.fresh;
-}
+pub walk-requires : goal.walk-requires
+walk-requires g c session = HasShown-nothing session (g.O.Sink.state c.args.output.now)
 
-pub returns-in-Some : goal.returns-in-Some
-returns-in-Some g c = Attempts-finish _ _ c.show_next.new.reader _ _ c.in_ok-finish.field-0 c.in-Some.finish c.in-Some.is
-    (c.in_ok-finish.ensures.shown _ c.records.invariant.shown)
+pub returns-in_err-walk : goal.returns-in_err-walk
+returns-in_err-walk g c =
+    let before : Ends = (record { input = g.S.Source.state c.args.input.now; output = g.O.Sink.state c.args.output.now }) in
+    let after : Ends = (record { input = g.S.Source.state c.walk.new.input; output = g.O.Sink.state c.walk.new.output }) in
+    Attempts-exit show_promise before after c.in_err-walk.field-0.0 _ c.from_residual.ensures.1
+    (Attempts-stopped c.walk.new.taker.headers c.walk.new.taker.packets before after c.in_err-walk.field-0.0 c.in_err-walk.ensures)
+
+pub returns-in_err-done-in-Whole : goal.returns-in_err-done-in-Whole
+returns-in_err-done-in-Whole g c =
+    let before : Ends = (record { input = g.S.Source.state c.args.input.now; output = g.O.Sink.state c.args.output.now }) in
+    let after : Ends = (record { input = g.S.Source.state c.walk.new.input; output = g.O.Sink.state c.walk.new.output }) in
+    Attempts-exit show_promise before after stops.Memory _ c.from_residual-in_err-done-in-Whole.ensures.1
+    (Attempts-unsaid c.walk.new.taker.headers c.walk.new.taker.packets before after c.in_ok-walk.field-0 c.in_ok-walk.ensures)
+
+pub returns-in_err-refused-in-Refused : goal.returns-in_err-refused-in-Refused
+returns-in_err-refused-in-Refused g c =
+    let before : Ends = (record { input = g.S.Source.state c.args.input.now; output = g.O.Sink.state c.args.output.now }) in
+    let after : Ends = (record { input = g.S.Source.state c.walk.new.input; output = g.O.Sink.state c.walk.new.output }) in
+    Attempts-exit show_promise before after stops.Memory _ c.from_residual-in_err-refused-in-Refused.ensures.1
+    (Attempts-unsaid c.walk.new.taker.headers c.walk.new.taker.packets before after c.in_ok-walk.field-0 c.in_ok-walk.ensures)
+
+pub returns-in_ok-done-in-Whole : goal.returns-in_ok-done-in-Whole
+returns-in_ok-done-in-Whole g c =
+    let before : Ends = (record { input = g.S.Source.state c.args.input.now; output = g.O.Sink.state c.args.output.now }) in
+    let after : Ends = (record { input = g.S.Source.state c.walk.new.input; output = g.O.Sink.state c.walk.new.output }) in
+    let taker = c.walk.new.taker in
+    Attempts-whole taker.headers taker.packets before after c.in_ok-done-in-Whole.field-0
+    (subst (λ (end : WalkEnd). Walks (HasShown taker.headers taker.packets) before after (Ok end)) c.in-Whole.is c.in_ok-walk.ensures)
+    c.in_ok-done-in-Whole.ensures.status c.in_ok-done-in-Whole.ensures.line
+
+pub returns-in_ok-refused-in-Refused : goal.returns-in_ok-refused-in-Refused
+returns-in_ok-refused-in-Refused g c =
+    let before : Ends = (record { input = g.S.Source.state c.args.input.now; output = g.O.Sink.state c.args.output.now }) in
+    let after : Ends = (record { input = g.S.Source.state c.walk.new.input; output = g.O.Sink.state c.walk.new.output }) in
+    let taker = c.walk.new.taker in
+    Attempts-refused taker.headers taker.packets before after c.in-Refused.end c.in_ok-refused-in-Refused.field-0
+    (subst (λ (end : WalkEnd). Walks (HasShown taker.headers taker.packets) before after (Ok end)) c.in-Refused.is c.in_ok-walk.ensures)
+    c.in_ok-refused-in-Refused.ensures.status c.in_ok-refused-in-Refused.ensures.line

@@ -1,7 +1,7 @@
 use Rattle.std.proofs.Common.{◌≡◌, ◌+◌, ℕ, List, Option, Some, None, subst, arith}
 use Rattle.std.specs.Prelude.{All, MatchOption}
 use Rattle.bats_batch.specs.steps.Reduction.{IsLeading}
-use Rattle.bats_batch.proofs.Offering.{IsReduced, counted, offered-dependent, offered-contradiction, offered-new}
+use Rattle.bats_batch.proofs.Offering.{IsReduced, counted, counted_of_rank, offered-dependent, offered-contradiction, offered-new}
 use Rattle.bats_batch.proofs.basis.Basis.judge.Goals as goal
 
 left : (p q : Option ℕ) (row : List ℕ) → p ≡ q → MatchOption p (All (λ byte. byte ≡ 0) row) (IsLeading row) → MatchOption q (All (λ byte. byte ≡ 0) row) (IsLeading row)
@@ -94,3 +94,45 @@ pub returns-clause-steps : goal.returns-clause-steps
 returns-clause-steps g c =
     counted c.self.inside.m c.self.inside.t c.self.inside.entries.items c.deref.result.now c.args.self.now c.args.steps.now c.reduce_packet.new.steps
     c.self.invariant c.self.view_is c.deref.ensures.value c.in_ok-place.ensures.steps
+
+-- ---- steps by rank
+
+pub returns-in_err-place-clause-coef_steps_of_rank : goal.returns-in_err-place-clause-coef_steps_of_rank
+returns-in_err-place-clause-coef_steps_of_rank g c =
+    counted_of_rank c.self.inside.m c.self.inside.t c.self.inside.entries.items c.deref.result.now c.args.self.now c.args.coef_steps.now c.reduce_packet.new.coef_steps
+    c.self.view_is c.deref.ensures.value c.in_err-place.ensures.coef_steps
+
+pub returns-in_err-place-clause-steps_of_rank : goal.returns-in_err-place-clause-steps_of_rank
+returns-in_err-place-clause-steps_of_rank g c =
+    counted_of_rank c.self.inside.m c.self.inside.t c.self.inside.entries.items c.deref.result.now c.args.self.now c.args.steps.now c.reduce_packet.new.steps
+    c.self.view_is c.deref.ensures.value c.in_err-place.ensures.steps
+
+pub returns-in_default-clause-coef_steps_of_rank : goal.returns-in_default-clause-coef_steps_of_rank
+returns-in_default-clause-coef_steps_of_rank g c =
+    counted_of_rank c.self.inside.m c.self.inside.t c.self.inside.entries.items c.deref.result.now c.args.self.now c.args.coef_steps.now c.reduce_packet.new.coef_steps
+    c.self.view_is c.deref.ensures.value c.in_ok-place.ensures.coef_steps
+
+pub returns-in_default-clause-steps_of_rank : goal.returns-in_default-clause-steps_of_rank
+returns-in_default-clause-steps_of_rank g c =
+    counted_of_rank c.self.inside.m c.self.inside.t c.self.inside.entries.items c.deref.result.now c.args.self.now c.args.steps.now c.reduce_packet.new.steps
+    c.self.view_is c.deref.ensures.value c.in_ok-place.ensures.steps
+
+pub returns-then-place-from-clause-coef_steps_of_rank : goal.returns-then-place-from-clause-coef_steps_of_rank
+returns-then-place-from-clause-coef_steps_of_rank g c =
+    counted_of_rank c.self.inside.m c.self.inside.t c.self.inside.entries.items c.deref.result.now c.args.self.now c.args.coef_steps.now c.reduce_packet.new.coef_steps
+    c.self.view_is c.deref.ensures.value c.in_ok-place.ensures.coef_steps
+
+pub returns-then-place-from-clause-steps_of_rank : goal.returns-then-place-from-clause-steps_of_rank
+returns-then-place-from-clause-steps_of_rank g c =
+    counted_of_rank c.self.inside.m c.self.inside.t c.self.inside.entries.items c.deref.result.now c.args.self.now c.args.steps.now c.reduce_packet.new.steps
+    c.self.view_is c.deref.ensures.value c.in_ok-place.ensures.steps
+
+pub returns-clause-coef_steps_of_rank : goal.returns-clause-coef_steps_of_rank
+returns-clause-coef_steps_of_rank g c =
+    counted_of_rank c.self.inside.m c.self.inside.t c.self.inside.entries.items c.deref.result.now c.args.self.now c.args.coef_steps.now c.reduce_packet.new.coef_steps
+    c.self.view_is c.deref.ensures.value c.in_ok-place.ensures.coef_steps
+
+pub returns-clause-steps_of_rank : goal.returns-clause-steps_of_rank
+returns-clause-steps_of_rank g c =
+    counted_of_rank c.self.inside.m c.self.inside.t c.self.inside.entries.items c.deref.result.now c.args.self.now c.args.steps.now c.reduce_packet.new.steps
+    c.self.view_is c.deref.ensures.value c.in_ok-place.ensures.steps

@@ -2,7 +2,7 @@ use Rattle.std.proofs.Common.{◌≡◌, ◌<◌, ◌≤◌, ◌+◌, ℕ, List,
 use Rattle.std.specs.Prelude.{All, MatchOption}
 use Rattle.bats_model.specs.declared.taken.Taken.TheVariants.{Kept, Dependent, Contradiction}
 use Rattle.bats_batch.specs.steps.Reduction.{IsLeading}
-use Rattle.bats_batch.proofs.Offering.{IsReduced, counted, basis_of, basis_of-kept, offered-dependent, offered-contradiction, offered-new, offered-room, offered-entries, offered-stands}
+use Rattle.bats_batch.proofs.Offering.{IsReduced, counted, counted_of_rank, basis_of, basis_of-kept, offered-dependent, offered-contradiction, offered-new, offered-room, offered-entries, offered-stands}
 use Rattle.bats_batch.proofs.basis.Basis.offer.Goals as goal
 
 left : (p q : Option ℕ) (row : List ℕ) → p ≡ q → MatchOption p (All (λ byte. byte ≡ 0) row) (IsLeading row) → MatchOption q (All (λ byte. byte ≡ 0) row) (IsLeading row)
@@ -229,3 +229,65 @@ returns-clause-stands g c packets stands =
     (basis_of c.self.inside.m c.self.inside.t c.keep.new.entries.items)
     (basis_of-kept c.self.inside.m c.self.inside.t c.self.inside.entries.items c.keep.new.entries.items c.args.self.now c.args.packet.now c.in-Some.pivot
     c.replace-row.result.items c.self.view_is c.in_ok-keep.ensures.ok) packets stands
+
+-- ---- steps by rank
+
+pub returns-in_err-place-clause-coef_steps_of_rank : goal.returns-in_err-place-clause-coef_steps_of_rank
+returns-in_err-place-clause-coef_steps_of_rank g c =
+    let few : c.reduce_packet.new.coef_steps ≤ c.args.coef_steps.now + length c.args.self.now.kept = counted_of_rank c.self.inside.m c.self.inside.t c.self.inside.entries.items c.deref.result.now c.args.self.now c.args.coef_steps.now c.reduce_packet.new.coef_steps
+    c.self.view_is c.deref.ensures.value c.in_err-place.ensures.coef_steps in
+    omega (arith, few)
+
+pub returns-in_err-place-clause-steps_of_rank : goal.returns-in_err-place-clause-steps_of_rank
+returns-in_err-place-clause-steps_of_rank g c =
+    let few : c.reduce_packet.new.steps ≤ c.args.steps.now + length c.args.self.now.kept = counted_of_rank c.self.inside.m c.self.inside.t c.self.inside.entries.items c.deref.result.now c.args.self.now c.args.steps.now c.reduce_packet.new.steps
+    c.self.view_is c.deref.ensures.value c.in_err-place.ensures.steps in
+    omega (arith, few)
+
+pub returns-in_default-clause-coef_steps_of_rank : goal.returns-in_default-clause-coef_steps_of_rank
+returns-in_default-clause-coef_steps_of_rank g c =
+    let few : c.reduce_packet.new.coef_steps ≤ c.args.coef_steps.now + length c.args.self.now.kept = counted_of_rank c.self.inside.m c.self.inside.t c.self.inside.entries.items c.deref.result.now c.args.self.now c.args.coef_steps.now c.reduce_packet.new.coef_steps
+    c.self.view_is c.deref.ensures.value c.in_ok-place.ensures.coef_steps in
+    omega (arith, few)
+
+pub returns-in_default-clause-steps_of_rank : goal.returns-in_default-clause-steps_of_rank
+returns-in_default-clause-steps_of_rank g c =
+    let few : c.reduce_packet.new.steps ≤ c.args.steps.now + length c.args.self.now.kept = counted_of_rank c.self.inside.m c.self.inside.t c.self.inside.entries.items c.deref.result.now c.args.self.now c.args.steps.now c.reduce_packet.new.steps
+    c.self.view_is c.deref.ensures.value c.in_ok-place.ensures.steps in
+    omega (arith, few)
+
+pub returns-then-pivot-from-clause-coef_steps_of_rank : goal.returns-then-pivot-from-clause-coef_steps_of_rank
+returns-then-pivot-from-clause-coef_steps_of_rank g c =
+    let few : c.reduce_packet.new.coef_steps ≤ c.args.coef_steps.now + length c.args.self.now.kept = counted_of_rank c.self.inside.m c.self.inside.t c.self.inside.entries.items c.deref.result.now c.args.self.now c.args.coef_steps.now c.reduce_packet.new.coef_steps
+    c.self.view_is c.deref.ensures.value c.in_ok-place.ensures.coef_steps in
+    omega (arith, few)
+
+pub returns-then-pivot-from-clause-steps_of_rank : goal.returns-then-pivot-from-clause-steps_of_rank
+returns-then-pivot-from-clause-steps_of_rank g c =
+    let few : c.reduce_packet.new.steps ≤ c.args.steps.now + length c.args.self.now.kept = counted_of_rank c.self.inside.m c.self.inside.t c.self.inside.entries.items c.deref.result.now c.args.self.now c.args.steps.now c.reduce_packet.new.steps
+    c.self.view_is c.deref.ensures.value c.in_ok-place.ensures.steps in
+    omega (arith, few)
+
+pub returns-in_err-keep-clause-coef_steps_of_rank : goal.returns-in_err-keep-clause-coef_steps_of_rank
+returns-in_err-keep-clause-coef_steps_of_rank g c =
+    let few : c.reduce_packet.new.coef_steps ≤ c.args.coef_steps.now + length c.args.self.now.kept = counted_of_rank c.self.inside.m c.self.inside.t c.self.inside.entries.items c.deref.result.now c.args.self.now c.args.coef_steps.now c.reduce_packet.new.coef_steps
+    c.self.view_is c.deref.ensures.value c.in_ok-place.ensures.coef_steps in
+    omega (arith, few, c.in_err-keep.ensures.coef_steps)
+
+pub returns-in_err-keep-clause-steps_of_rank : goal.returns-in_err-keep-clause-steps_of_rank
+returns-in_err-keep-clause-steps_of_rank g c =
+    let few : c.reduce_packet.new.steps ≤ c.args.steps.now + length c.args.self.now.kept = counted_of_rank c.self.inside.m c.self.inside.t c.self.inside.entries.items c.deref.result.now c.args.self.now c.args.steps.now c.reduce_packet.new.steps
+    c.self.view_is c.deref.ensures.value c.in_ok-place.ensures.steps in
+    omega (arith, few, c.in_err-keep.ensures.steps)
+
+pub returns-clause-coef_steps_of_rank : goal.returns-clause-coef_steps_of_rank
+returns-clause-coef_steps_of_rank g c =
+    let few : c.reduce_packet.new.coef_steps ≤ c.args.coef_steps.now + length c.args.self.now.kept = counted_of_rank c.self.inside.m c.self.inside.t c.self.inside.entries.items c.deref.result.now c.args.self.now c.args.coef_steps.now c.reduce_packet.new.coef_steps
+    c.self.view_is c.deref.ensures.value c.in_ok-place.ensures.coef_steps in
+    omega (arith, few, c.in_ok-keep.ensures.coef_steps)
+
+pub returns-clause-steps_of_rank : goal.returns-clause-steps_of_rank
+returns-clause-steps_of_rank g c =
+    let few : c.reduce_packet.new.steps ≤ c.args.steps.now + length c.args.self.now.kept = counted_of_rank c.self.inside.m c.self.inside.t c.self.inside.entries.items c.deref.result.now c.args.self.now c.args.steps.now c.reduce_packet.new.steps
+    c.self.view_is c.deref.ensures.value c.in_ok-place.ensures.steps in
+    omega (arith, few, c.in_ok-keep.ensures.steps)

@@ -1,0 +1,3 @@
+pub mod Kept
+pub mod Reduced
+pub mod steps
