@@ -3,6 +3,7 @@ use Rattle.std.proofs.Common.{ℕ, ◌≡◌, ◌≢◌, ◌≤◌, ◌<◌, ◌
 use Rattle.std.specs.Prelude.{IfSome, sum_by}
 use Rattle.std.specs.List.{range_with_len}
 use Rattle.std.specs.Result.{IsErrAnd, result_err}
+use Rattle.std.proofs.lemmas.List.Sums.{sum_by_push}
 use Rattle.bats_io.specs.Streams.{OutputState}
 use Rattle.bats_model.specs.Session.{SessionData}
 use Rattle.bats_model.specs.Relay.{relay_output}
@@ -14,8 +15,9 @@ use Rattle.tool_run.specs.declared.stop.Stop.{Stop}
 use Rattle.tool_run.specs.Writes.{Writes}
 use Rattle.tool_run.proofs.Writing.{Writes-same}
 use Rattle.tool_run.proofs.Loops.{Writes-more, Writes-failed}
+use Rattle.tool_run.proofs.Ranges.{range-append}
 use Rattle.tool_stream.specs.Relay.{sent_record}
-use Rattle.tool_stream.specs.steps.Sending.{HasSentOf, HasSentNoneFrom, output_record, batch_records, place_count, place_records}
+use Rattle.tool_stream.specs.steps.Sending.{HasSentOf, HasSentNoneFrom, output_record, batch_records, place_count, place_records, held_records, sent_before}
 
 -- the record of an output that was made
 pub output_record-made : (session session' : SessionData) (seed : List ℕ) (number output : ℕ) (kept : List Packet) (made : Option Packet) (packet : Packet)
@@ -91,3 +93,45 @@ place_records-is session seed answers held held' place number rank count basis s
     (ap (λ (n : ℕ). batch_records session seed n batch.kept (answers (length batch.kept))) (sym number_is)
     ∙ ap (λ (ps : List Packet). batch_records session seed number ps (answers (length batch.kept))) (sym here)
     ∙ ap (λ (n : ℕ). batch_records session seed number (kept_at held'.batches number) n) (sym many))
+
+-- ---- the batches at all places
+
+-- the batch at the next place is that of the start
+place_records-same : (session : SessionData) (answers : ℕ → ℕ) (place : ℕ) (start now : MixerData) → now.held ≡ start.held → now.seed ≡ start.seed
+    → place_records session start.seed answers start.held.batches (0 + place) ≡ place_records session now.seed answers now.held.batches place
+place_records-same session answers place start now held seed =
+    let first : 0 + place ≡ place = omega arith in
+    ap (place_records session start.seed answers start.held.batches) first
+    ∙ ap (λ (s : List ℕ). place_records session s answers start.held.batches place) (sym seed)
+    ∙ ap (λ (h : HeldData). place_records session now.seed answers h.batches place) (sym held)
+
+-- the batches before a place
+abbrev pub records_before : SessionData → List ℕ → (ℕ → ℕ) → List HeldBatch → ℕ → List ℕ
+records_before session seed answers batches place = flat_map (place_records session seed answers batches) (range_with_len 0 place)
+
+-- one more batch was sent
+pub records_before-more : {a b c : OutputState} (session : SessionData) (answers : ℕ → ℕ) (place : ℕ) (start now : MixerData) → now.held ≡ start.held
+    → now.seed ≡ start.seed → Writes a b (records_before session start.seed answers start.held.batches place) None
+    → Writes b c (place_records session now.seed answers now.held.batches place) None
+    → Writes a c (records_before session start.seed answers start.held.batches (place + 1)) None
+records_before-more session answers place start now held seed w v =
+    Writes-more (place_records session start.seed answers start.held.batches) 0 place w
+    (Writes-same (place_records-same session answers place start now held seed) v)
+
+-- the next batch could not be sent
+pub records_before-failed : {T : Type 0} {a b c : OutputState} {e : Stop} (session : SessionData) (answers : ℕ → ℕ) (place : ℕ) (start now : MixerData)
+    (r : Result T Stop) → place < length start.held.batches → IsErrAnd r (λ y. y ≡ e) → now.held ≡ start.held → now.seed ≡ start.seed
+    → Writes a b (records_before session start.seed answers start.held.batches place) None
+    → Writes b c (place_records session now.seed answers now.held.batches place) (Some e)
+    → Writes a c (held_records session start.seed answers start.held.batches) (result_err r)
+records_before-failed session answers place start now r within is held seed w v =
+    Writes-failed (place_records session start.seed answers start.held.batches) 0 (length start.held.batches) place r within is w
+    (Writes-same (place_records-same session answers place start now held seed) v)
+
+-- the outputs before a place, and those of the batch there
+pub sent_before-more : (answers : ℕ → ℕ) (batches : List HeldBatch) (place : ℕ)
+    → sent_before answers batches (place + 1) ≡ sent_before answers batches place + place_count answers batches place
+sent_before-more answers batches place =
+    let count : ℕ → ℕ = place_count answers batches in
+    ap (λ (numbers : List ℕ). sum_by count numbers) (range-append 0 place 1) ∙ sum_by_push count (range_with_len 0 place) (0 + place)
+    ∙ ap (λ (n : ℕ). sum_by count (range_with_len 0 place) + count n) (omega arith)
