@@ -2,6 +2,7 @@
 ghost use Rattle.std.specs.Prelude.{ℕ, ◌≡◌, ◌≤◌, List, string_bytes, IfOk};
 ghost use Rattle.bats_model.specs.Session.{SessionData};
 ghost use Rattle.bats_model.specs.declared.item.Item.{Item};
+ghost use Rattle.bats_relay.specs.Mixer.{sent_of};
 ghost use Rattle.tool_run.specs.Attempt.{Attempts};
 ghost use Rattle.tool_run.specs.declared.status.Status.TheVariants as statuses;
 ghost use Rattle.tool_stream.specs.Relay.{relay_line, relay_promise};
@@ -38,7 +39,9 @@ fn send_all<O: Sink>(
     mut intake: Intake,
     output: &mut O,
 ) -> Result<Finish, Stop>
-    requires { count ≤ 64 }
+    requires count { count ≤ 64 }
+    requires session { intake.mixer.held.session ≡ intake.session }
+    requires unsent { (batch : ℕ) → sent_of intake.mixer batch ≡ 0 }
     ensures { (seed : List ℕ) (session : SessionData) (list : List Item) → StandsForItems seed (Some intake) session list
         → SendsAs seed extra count session list (O.state output.old) (O.state output.new) result }
 {
