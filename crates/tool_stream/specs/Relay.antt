@@ -26,28 +26,31 @@ pub record AreHeld (packets : List Packet) (numbers : List ℕ) : Type 0 where
   pub rising : IsStrictlyIncreasing numbers
   pub held : (number : ℕ) → Contains numbers number ↔ 0 < length (kept_of number packets)
 
--- how many outputs the rule gives a batch of this rank: `extra` its rank, m at most, and the count; `fixed` the count
+-- outputs of a batch, at most: as many as its coefficients, 32 at most, and 64 more
+abbrev pub most_outputs : ℕ
+most_outputs = 96
+
+-- how many outputs a batch of this rank has: `extra` its rank, m at most, and the count; `fixed` the count
 abbrev pub output_count : SessionData → Bool → ℕ → ℕ → ℕ
 output_count session extra count rank = if extra then extra_count session.m count rank else fixed_count count rank
 
--- what is sent of a batch: its outputs, as many as the rule gives, numbered from 0
-abbrev pub batch_outputs : SessionData → List ℕ → Bool → ℕ → List Packet → ℕ → List Packet
-batch_outputs session seed extra count packets number =
-    let kept = kept_of number packets in
-    relay_outputs session seed number 0 (output_count session extra count (length kept)) kept
+-- what is sent of a batch: its outputs, as many as the rule gives for its rank, numbered from 0
+abbrev pub batch_outputs : SessionData → List ℕ → (ℕ → ℕ) → List Packet → ℕ → List Packet
+batch_outputs session seed rule packets number =
+    relay_outputs session seed number 0 (rule (length (kept_of number packets))) (kept_of number packets)
 
 -- the record of a packet
 abbrev pub sent_record : Packet → List ℕ
 sent_record packet = packet_record packet.batch packet.coefs packet.payload
 
--- what is sent of all batches with these numbers, batch by batch
-abbrev pub sent_packets : SessionData → List ℕ → Bool → ℕ → List Packet → List ℕ → List Packet
-sent_packets session seed extra count packets numbers = flat_map (batch_outputs session seed extra count packets) numbers
+-- what is sent of the batches with these numbers, batch by batch
+unfoldable pub sent_packets : SessionData → List ℕ → (ℕ → ℕ) → List Packet → List ℕ → List Packet
+sent_packets session seed rule packets numbers = flat_map (batch_outputs session seed rule packets) numbers
 
 -- the header, and then the records of what is sent
-abbrev pub relayed_output : SessionData → List ℕ → Bool → ℕ → List Packet → List ℕ → List ℕ
-relayed_output session seed extra count packets numbers =
-    header_record session ++ flat_map sent_record (sent_packets session seed extra count packets numbers)
+abbrev pub relayed_output : SessionData → List ℕ → (ℕ → ℕ) → List Packet → List ℕ → List ℕ
+relayed_output session seed rule packets numbers =
+    header_record session ++ flat_map sent_record (sent_packets session seed rule packets numbers)
 
 -- the notes line: the packets received, those kept, the batches held, and the outputs sent
 abbrev pub relay_line : ℕ → ℕ → ℕ → ℕ → List ℕ
@@ -56,12 +59,12 @@ relay_line packets kept batches sent =
     ++ (codes " batches=" ++ (decimal batches ++ (codes " sent=" ++ (decimal sent ++ codes "\n")))))))
 
 -- the ending of a packet file with these packets, whose held batches have these numbers
-abbrev pub relayed_ending : SessionData → List ℕ → Bool → ℕ → List Packet → List ℕ → Ending
-relayed_ending session seed extra count packets numbers = record {
+abbrev pub relayed_ending : SessionData → List ℕ → (ℕ → ℕ) → List Packet → List ℕ → Ending
+relayed_ending session seed rule packets numbers = record {
   status = statuses.Done;
-  output = relayed_output session seed extra count packets numbers;
+  output = relayed_output session seed rule packets numbers;
   line = relay_line (length packets) (kept_count packets) (length numbers)
-    (length (sent_packets session seed extra count packets numbers));
+      (length (sent_packets session seed rule packets numbers));
   reach = to_end;
 }
 
@@ -78,7 +81,7 @@ pub record RelaySends (seed : List ℕ) (extra : Bool) (count : ℕ) (input : Li
   pub few : AreFew (Some session) list
   pub numbers : List ℕ
   pub held : AreHeld (packets_of list) numbers
-  pub ending_is : ending ≡ relayed_ending session seed extra count (packets_of list) numbers
+  pub ending_is : ending ≡ relayed_ending session seed (output_count session extra count) (packets_of list) numbers
 
 -- the input is refused, and no more of the packets before are kept than may be
 pub record RelayRefuses (input : List ℕ) (ending : Ending) : Type 0 where

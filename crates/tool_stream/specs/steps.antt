@@ -1,1 +1,4 @@
 pub mod Shown
+pub mod Keeping
+pub mod Sending
+pub mod Relaying

@@ -1,0 +1,82 @@
+//! The command `relay`.
+ghost use Rattle.std.specs.Prelude.{ℕ, ◌≡◌, ◌≤◌, List, string_bytes, IfOk};
+ghost use Rattle.bats_model.specs.Session.{SessionData};
+ghost use Rattle.bats_model.specs.declared.item.Item.{Item};
+ghost use Rattle.bats_relay.specs.Mixer.{sent_of};
+ghost use Rattle.tool_run.specs.Attempt.{Attempts};
+ghost use Rattle.tool_run.specs.declared.status.Status.TheVariants as statuses;
+ghost use Rattle.tool_stream.specs.Relay.{relay_line, relay_promise};
+ghost use Rattle.tool_stream.specs.steps.Relaying.{SendsAs};
+ghost use Rattle.tool_stream.specs.steps.Keeping.{StandsForItems};
+
+use crate::keeping::{Counters, Intake, Keeper};
+use crate::sending::send_by_rule;
+use bats_io::{Sink, Source};
+use gf_rows::Steps;
+use std::alloc::{AllocError, Global};
+use std::sync::ledger::Ledger;
+use tool_records::{WalkEnd, refused, walk};
+use tool_run::{Finish, Status, Stop, refuse};
+
+// The notes line of a relay that is done: the packets that came, those kept, the batches held, and the outputs sent.
+fn relay_text(
+    alloc: Global,
+    packets: u32,
+    kept: u32,
+    batches: u32,
+    sent: u32,
+) -> Result<String, AllocError>
+    ensures { IfOk result (λ line. string_bytes line ≡ relay_line packets kept batches sent) }
+{
+    format!(in alloc; "relay: packets={packets} kept={kept} batches={batches} sent={sent}\n")
+}
+
+// Sends what is kept, and says how the run ends.
+fn send_all<O: Sink>(
+    alloc: Global,
+    extra: bool,
+    count: u32,
+    mut intake: Intake,
+    output: &mut O,
+) -> Result<Finish, Stop>
+    requires count { count ≤ 64 }
+    requires session { intake.mixer.held.session ≡ intake.session }
+    requires unsent { (batch : ℕ) → sent_of intake.mixer batch ≡ 0 }
+    ensures { (seed : List ℕ) (session : SessionData) (list : List Item) → StandsForItems seed (Some intake) session list
+        → SendsAs seed extra count session list (O.state output.old) (O.state output.new) result }
+{
+    let sent = send_by_rule(output, &mut intake, extra, count)?;
+    let held = intake.mixer.held();
+    let line = relay_text(alloc, intake.packets, held.rows(), held.batches(), sent)?;
+    Ok(Finish {
+        status: Status::Done,
+        line,
+    })
+}
+
+/// Does `relay`: keeps the new packets of the input, and then writes the header and, of each held batch, numbers rising,
+/// as many sums of its kept packets as the rule says: `count`, at most 64, or with `extra` its rank and `count` more.
+pub fn relay<S: Source, O: Sink, C: Ledger, L: Ledger>(
+    alloc: Global,
+    seed: [u8; 16],
+    extra: bool,
+    count: u32,
+    input: &mut S,
+    output: &mut O,
+    coef_steps: &mut Steps<C>,
+    steps: &mut Steps<L>,
+) -> Result<Finish, Stop>
+    requires { count ≤ 64 }
+    ensures { Attempts (relay_promise seed extra count)
+        (record { input = S.state input.old; output = O.state output.old })
+        (record { input = S.state input.new; output = O.state output.new })
+        result }
+{
+    let mut keeper = Keeper::new(seed);
+    let mut counters = Counters { coef_steps, steps };
+    match walk(alloc, input, &mut keeper, output, &mut counters)? {
+        WalkEnd::Whole => send_all(alloc, extra, count, keeper.into_intake(), output),
+        WalkEnd::Refused(end) => Ok(refused(alloc, end)?),
+        WalkEnd::Halted => Ok(refuse(alloc, Status::Limit, "bats: limit kept\n")?),
+    }
+}
