@@ -84,12 +84,9 @@ pub record SinkRefuses (input : List ℕ) (ending : Ending) : Type 0 where
   pub plain : ArePlain session list
   pub ending_is : ending ≡ refused_ending [] end
 
--- the notes line of an input that has a packet which can't be taken yet
-abbrev pub not_built_line : List ℕ
-not_built_line = codes "bats: not built\n"
-
+-- the ending on an input that has a packet which can't be taken yet
 abbrev pub not_built_ending : Ending
-not_built_ending = refusal statuses.NotBuilt not_built_line in_part
+not_built_ending = refusal statuses.NotBuilt (codes "bats: not built\n") in_part
 
 -- the first packet that isn't plain comes, in a whole record: this is not built yet
 pub record SinkIsNotBuilt (input : List ℕ) (ending : Ending) : Type 0 where

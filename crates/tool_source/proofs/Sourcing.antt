@@ -20,7 +20,7 @@ use Rattle.tool_run.proofs.Begun.{IsBegun-front}
 use Rattle.tool_run.proofs.Writing.{Writes-same}
 use Rattle.bats_words.specs.declared.source_options.SourceOptions.{SourceOptions}
 use Rattle.tool_source.specs.FileSession.{session_for}
-use Rattle.tool_source.specs.Source.{source_output, source_line, source_ending, source_promise, symbols_ending, symbols_line, most_read}
+use Rattle.tool_source.specs.Source.{source_output, source_line, source_ending, source_promise, symbols_ending, most_read}
 use Rattle.tool_source.specs.steps.Ready.{IsReady}
 use Rattle.tool_source.proofs.Counts.{length-within, length-beyond, symbols-beyond}
 use Rattle.tool_source.proofs.Endings.{source_ending-too_long, source_ending-done, done_ending}
@@ -80,7 +80,7 @@ Attempts-no_line o a b x file q = record {
 
 pub Attempts-too_long : (o : SourceOptions) (a b : InputState) (x : OutputState) (file : List ℕ) (finish : Finish) → 0 < o.t
     → ReadsUpTo a b (4096 * o.t) file → 4096 < symbols_of (session_for o (length file))
-    → finish.status ≡ statuses.Limit → string_bytes finish.line ≡ symbols_line
+    → finish.status ≡ statuses.Limit → string_bytes finish.line ≡ symbols_ending.line
     → Attempts (source_promise o) (record { input = a; output = x }) (record { input = b; output = x }) (Ok finish)
 Attempts-too_long o a b x file finish pos q long status line =
     let whole : List ℕ = told_or a.left file in

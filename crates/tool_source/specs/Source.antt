@@ -44,12 +44,9 @@ source_line session batches =
 abbrev pub most_read : SourceOptions → ℕ
 most_read options = max_symbols * options.t + 1
 
--- the notes line of a file that has too many symbols, and the ending on it
-abbrev pub symbols_line : List ℕ
-symbols_line = codes "bats: limit symbols\n"
-
+-- the ending on a file that has too many symbols
 abbrev pub symbols_ending : Ending
-symbols_ending = refusal statuses.Limit symbols_line in_part
+symbols_ending = refusal statuses.Limit (codes "bats: limit symbols\n") in_part
 
 -- the ending of `source` on this file
 unfoldable pub source_ending : SourceOptions → List ℕ → Ending
