@@ -38,7 +38,7 @@ use Rattle.tool_records.specs.ReadsRecords.{ReadsOn, ReadsRecords}
 use Rattle.tool_records.specs.Walk.{GivenSoFar, ReadsLast, Walks, WalksToEnd, WalksToRefusal, WalksToItem, WalksToStop}
 use Rattle.tool_records.proofs.WalksRead.{told_items, told_last, any_session, same_last, ReadsRecords-items, ReadsRecords-item, ReadsRecords-last}
 use Rattle.tool_stream.specs.declared.keeping.Intake.{Intake}
-use Rattle.tool_stream.specs.Relay.{AreFew, IsRelayEnding, kept_limit_ending, kept_limit_line, output_count, relay_line, relay_promise, relayed_ending, takes_few}
+use Rattle.tool_stream.specs.Relay.{AreFew, IsRelayEnding, kept_limit_ending, output_count, relay_line, relay_promise, relayed_ending, takes_few}
 use Rattle.tool_stream.specs.steps.Keeping.{StandsForAll, StandsForItems, EndsFull, CameAfterFew}
 use Rattle.tool_stream.specs.steps.Keeping.{Keeps as HasKept}
 use Rattle.tool_stream.specs.steps.Sending.{held_records, sent_count}
@@ -103,10 +103,10 @@ module _ (seed : List ℕ) (extra : Bool) (count : ℕ) (session : SessionData) 
   SendsAs-done before after finish packets kept batches sent w status line packets_are kept_are batches_are sent_are =
       let numbers : List ℕ = numbers_of intake.mixer.held.batches in
       let all : batches ≡ length numbers =
-          batches_are ∙ sym (length-map intake.mixer.held.batches (λ (batch : HeldBatch). batch.number)) in
+      batches_are ∙ sym (length-map intake.mixer.held.batches (λ (batch : HeldBatch). batch.number)) in
       let made = sent_are
-          ∙ ap (λ (t : SessionData). sent_count (output_count t extra count) intake.mixer.held.batches) s.session_is
-          ∙ sent_count-sent session seed (output_count session extra count) (packets_of list) intake.mixer.held s.stands in
+      ∙ ap (λ (t : SessionData). sent_count (output_count t extra count) intake.mixer.held.batches) s.session_is
+      ∙ sent_count-sent session seed (output_count session extra count) (packets_of list) intake.mixer.held s.stands in
       record {
         numbers = numbers;
         held = AreHeld-numbers (packets_of list) intake.mixer.held s.stands;
@@ -286,7 +286,7 @@ module _ (seed seed' : List ℕ) (extra : Bool) (count : ℕ) (intake : Option I
       ReadsRecords-last takes_few w.session w.list w.item start.input.left now.input.left (full_few w) full.full w.reads
 
   pub Attempts-full : (finish : Finish) → Walks (HasKept seed seed' intake) start now (Ok walks.Halted)
-      → finish.status ≡ statuses.Limit → string_bytes finish.line ≡ kept_limit_line
+      → finish.status ≡ statuses.Limit → string_bytes finish.line ≡ kept_limit_ending.line
       → Attempts (relay_promise seed extra count) start now (Ok finish)
   Attempts-full finish walked status line =
       let w : WalksToItem (HasKept seed seed' intake) start now (Ok takes.Halts) = walked.as_far in

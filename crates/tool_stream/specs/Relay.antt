@@ -92,12 +92,9 @@ pub record RelayRefuses (input : List ℕ) (ending : Ending) : Type 0 where
   pub few : AreFew session list
   pub ending_is : ending ≡ refused_ending [] end
 
--- the notes line of an input of whose packets more are new than may be kept
-abbrev pub kept_limit_line : List ℕ
-kept_limit_line = codes "bats: limit kept\n"
-
+-- the ending on an input of whose packets more are new than may be kept
 abbrev pub kept_limit_ending : Ending
-kept_limit_ending = refusal statuses.Limit kept_limit_line in_part
+kept_limit_ending = refusal statuses.Limit (codes "bats: limit kept\n") in_part
 
 -- a packet comes that would be kept when no more may be, in a whole record
 pub record RelayIsFull (input : List ℕ) (ending : Ending) : Type 0 where
