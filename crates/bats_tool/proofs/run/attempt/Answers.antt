@@ -13,3 +13,8 @@ pub sink-requires-after_bounds : goal.sink-requires-after_bounds
 sink-requires-after_bounds g c _ _ =
     subst (λ (command : Command). InRanges command) c.in-Some-Sink.field-0-is
     (subst (λ (x : Option Command). IfSome x InRanges) c.in-Some-Sink.is c.parse.ensures.ranges)
+
+pub relay-requires : goal.relay-requires
+relay-requires g c =
+    (subst (λ (command : Command). InRanges command) c.in-Some-Relay.field-0-is
+    (subst (λ (x : Option Command). IfSome x InRanges) c.in-Some-Relay.is c.parse.ensures.ranges)).0.high
