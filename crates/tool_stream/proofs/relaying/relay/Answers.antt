@@ -1,4 +1,4 @@
-use Rattle.std.proofs.Common.{ℕ, ◌≡◌, ◌∙◌, List, Option, Ok, Some, refl, sym, subst}
+use Rattle.std.proofs.Common.{◌∙◌, Option, Ok, Some, refl, sym, subst}
 use Rattle.tool_run.specs.declared.stop.Stop.TheVariants as stops
 use Rattle.tool_run.specs.Streams.{Ends}
 use Rattle.tool_run.proofs.Attempts.{Attempts-exit}
@@ -34,7 +34,7 @@ into_intake-requires g c =
     let seed = c.new-keeper.result.seed in
     let taker = c.walk.new.taker in
     let walked : Walks (Keeps seed taker.seed taker.intake) before after (Ok walks.Whole) =
-        subst (λ (end : WalkEnd). Walks (Keeps seed taker.seed taker.intake) before after (Ok end)) c.in-Whole.is c.in_ok-walk.ensures in
+    subst (λ (end : WalkEnd). Walks (Keeps seed taker.seed taker.intake) before after (Ok end)) c.in-Whole.is c.in_ok-walk.ensures in
     has_intake-walked seed taker.seed taker.intake before after walked
 
 pub send_all-requires-clause-session : goal.send_all-requires-clause-session
@@ -44,9 +44,9 @@ send_all-requires-clause-session g c =
     let seed = c.new-keeper.result.seed in
     let taker = c.walk.new.taker in
     let walked : Walks (Keeps seed taker.seed taker.intake) before after (Ok walks.Whole) =
-        subst (λ (end : WalkEnd). Walks (Keeps seed taker.seed taker.intake) before after (Ok end)) c.in-Whole.is c.in_ok-walk.ensures in
+    subst (λ (end : WalkEnd). Walks (Keeps seed taker.seed taker.intake) before after (Ok end)) c.in-Whole.is c.in_ok-walk.ensures in
     let kept : Walks (Keeps seed taker.seed (Some c.into_intake.result)) before after (Ok walks.Whole) =
-        subst (λ (intake : Option Intake). Walks (Keeps seed taker.seed intake) before after (Ok walks.Whole)) c.into_intake.ensures walked in
+    subst (λ (intake : Option Intake). Walks (Keeps seed taker.seed intake) before after (Ok walks.Whole)) c.into_intake.ensures walked in
     let stood = has_stood seed taker.seed c.into_intake.result before after kept in
     stood.2.held_session ∙ sym stood.2.session_is
 
@@ -57,9 +57,9 @@ send_all-requires-clause-unsent g c =
     let seed = c.new-keeper.result.seed in
     let taker = c.walk.new.taker in
     let walked : Walks (Keeps seed taker.seed taker.intake) before after (Ok walks.Whole) =
-        subst (λ (end : WalkEnd). Walks (Keeps seed taker.seed taker.intake) before after (Ok end)) c.in-Whole.is c.in_ok-walk.ensures in
+    subst (λ (end : WalkEnd). Walks (Keeps seed taker.seed taker.intake) before after (Ok end)) c.in-Whole.is c.in_ok-walk.ensures in
     let kept : Walks (Keeps seed taker.seed (Some c.into_intake.result)) before after (Ok walks.Whole) =
-        subst (λ (intake : Option Intake). Walks (Keeps seed taker.seed intake) before after (Ok walks.Whole)) c.into_intake.ensures walked in
+    subst (λ (intake : Option Intake). Walks (Keeps seed taker.seed intake) before after (Ok walks.Whole)) c.into_intake.ensures walked in
     (has_stood seed taker.seed c.into_intake.result before after kept).2.unsent
 
 pub returns-in-Whole : goal.returns-in-Whole
@@ -69,9 +69,9 @@ returns-in-Whole g c =
     let seed = c.new-keeper.result.seed in
     let taker = c.walk.new.taker in
     let walked : Walks (Keeps seed taker.seed taker.intake) before after (Ok walks.Whole) =
-        subst (λ (end : WalkEnd). Walks (Keeps seed taker.seed taker.intake) before after (Ok end)) c.in-Whole.is c.in_ok-walk.ensures in
+    subst (λ (end : WalkEnd). Walks (Keeps seed taker.seed taker.intake) before after (Ok end)) c.in-Whole.is c.in_ok-walk.ensures in
     let kept : Walks (Keeps seed taker.seed (Some c.into_intake.result)) before after (Ok walks.Whole) =
-        subst (λ (intake : Option Intake). Walks (Keeps seed taker.seed intake) before after (Ok walks.Whole)) c.into_intake.ensures walked in
+    subst (λ (intake : Option Intake). Walks (Keeps seed taker.seed intake) before after (Ok walks.Whole)) c.into_intake.ensures walked in
     Attempts-seed c.args.seed seed c.args.extra c.args.count before _ _ c.new-keeper.ensures.seed
     (Attempts-sent seed taker.seed c.args.extra c.args.count c.into_intake.result before after (g.O.Sink.state c.send_all.new.output)
     c.send_all.result kept (c.send_all.ensures seed))
@@ -83,7 +83,7 @@ returns-in_ok-refused-in-Refused g c =
     let seed = c.new-keeper.result.seed in
     let taker = c.walk.new.taker in
     let walked : Walks (Keeps seed taker.seed taker.intake) before after (Ok (walks.Refused c.in-Refused.end)) =
-        subst (λ (end : WalkEnd). Walks (Keeps seed taker.seed taker.intake) before after (Ok end)) c.in-Refused.is c.in_ok-walk.ensures in
+    subst (λ (end : WalkEnd). Walks (Keeps seed taker.seed taker.intake) before after (Ok end)) c.in-Refused.is c.in_ok-walk.ensures in
     Attempts-seed c.args.seed seed c.args.extra c.args.count before after _ c.new-keeper.ensures.seed
     (Attempts-refused seed taker.seed c.args.extra c.args.count taker.intake before after c.in-Refused.end c.in_ok-refused-in-Refused.field-0
     walked c.in_ok-refused-in-Refused.ensures.status c.in_ok-refused-in-Refused.ensures.line)
@@ -95,7 +95,7 @@ returns-in_err-refused-in-Refused g c =
     let seed = c.new-keeper.result.seed in
     let taker = c.walk.new.taker in
     let walked : Walks (Keeps seed taker.seed taker.intake) before after (Ok (walks.Refused c.in-Refused.end)) =
-        subst (λ (end : WalkEnd). Walks (Keeps seed taker.seed taker.intake) before after (Ok end)) c.in-Refused.is c.in_ok-walk.ensures in
+    subst (λ (end : WalkEnd). Walks (Keeps seed taker.seed taker.intake) before after (Ok end)) c.in-Refused.is c.in_ok-walk.ensures in
     Attempts-seed c.args.seed seed c.args.extra c.args.count before after _ c.new-keeper.ensures.seed
     (Attempts-exit (relay_promise seed c.args.extra c.args.count) before after stops.Memory _ c.from_residual-in_err-refused-in-Refused.ensures.1
     (Attempts-refused_unsaid seed taker.seed c.args.extra c.args.count taker.intake before after c.in-Refused.end walked))
@@ -107,7 +107,7 @@ returns-in_ok-refuse-in-Halted g c =
     let seed = c.new-keeper.result.seed in
     let taker = c.walk.new.taker in
     let walked : Walks (Keeps seed taker.seed taker.intake) before after (Ok walks.Halted) =
-        subst (λ (end : WalkEnd). Walks (Keeps seed taker.seed taker.intake) before after (Ok end)) c.in-Halted.is c.in_ok-walk.ensures in
+    subst (λ (end : WalkEnd). Walks (Keeps seed taker.seed taker.intake) before after (Ok end)) c.in-Halted.is c.in_ok-walk.ensures in
     Attempts-seed c.args.seed seed c.args.extra c.args.count before after _ c.new-keeper.ensures.seed
     (Attempts-full seed taker.seed c.args.extra c.args.count taker.intake before after c.in_ok-refuse-in-Halted.field-0
     walked c.in_ok-refuse-in-Halted.ensures.status c.in_ok-refuse-in-Halted.ensures.line)
@@ -119,7 +119,7 @@ returns-in_err-refuse-in-Halted g c =
     let seed = c.new-keeper.result.seed in
     let taker = c.walk.new.taker in
     let walked : Walks (Keeps seed taker.seed taker.intake) before after (Ok walks.Halted) =
-        subst (λ (end : WalkEnd). Walks (Keeps seed taker.seed taker.intake) before after (Ok end)) c.in-Halted.is c.in_ok-walk.ensures in
+    subst (λ (end : WalkEnd). Walks (Keeps seed taker.seed taker.intake) before after (Ok end)) c.in-Halted.is c.in_ok-walk.ensures in
     Attempts-seed c.args.seed seed c.args.extra c.args.count before after _ c.new-keeper.ensures.seed
     (Attempts-exit (relay_promise seed c.args.extra c.args.count) before after stops.Memory _ c.from_residual-in_err-refuse-in-Halted.ensures.1
     (Attempts-full_unsaid seed taker.seed c.args.extra c.args.count taker.intake before after walked))

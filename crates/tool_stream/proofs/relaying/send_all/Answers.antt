@@ -17,7 +17,7 @@ pub returns : goal.returns
 returns g c seed session list h =
     let held : c.held-held.result.now ≡ c.args.intake.mixer.held = c.held-held.ensures ∙ c.in_ok-sent.ensures.held in
     let stands : StandsFor (packets_of list) c.held-held.result.now =
-        subst (λ (x : HeldData). StandsFor (packets_of list) x) (sym held) h.stands in
+    subst (λ (x : HeldData). StandsFor (packets_of list) x) (sym held) h.stands in
     SendsAs-done seed c.args.extra c.args.count session list c.args.intake h _ _ _ c.send_by_rule.new.intake.packets c.rows.result
     c.batches.result c.in_ok-sent.sent c.in_ok-sent.ensures.written refl c.in_ok-line.ensures c.in_ok-sent.ensures.packets
     (c.rows.ensures.kept (packets_of list) stands)

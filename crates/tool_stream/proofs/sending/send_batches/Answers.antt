@@ -1,4 +1,4 @@
-use Rattle.std.proofs.Common.{ℕ, ◌≡◌, ◌<◌, ◌+◌, ◌∙◌, ap, sym, arith, length}
+use Rattle.std.proofs.Common.{◌≡◌, ◌<◌, ◌∙◌, ap, sym, arith, length}
 use Rattle.bats_batch.specs.Held.{HeldData}
 use Rattle.tool_run.proofs.Writing.{Writes-same}
 use Rattle.tool_stream.specs.steps.Sending.{place_count}
@@ -9,11 +9,11 @@ pub returns-in_err-sent-clause-written : goal.returns-in_err-sent-clause-written
 returns-in_err-sent-clause-written g c answers by =
     let so_far = c.batches.invariant in
     let within : c.batches.place < length c.args.mixer.now.held.batches = omega (
-          arith,
-          c.batches-test.true,
-          c.batches-place-end.ensures.value,
-          ap (λ (h : HeldData). length h.batches) c.held.ensures,
-        ) in
+      arith,
+      c.batches-test.true,
+      c.batches-place-end.ensures.value,
+      ap (λ (h : HeldData). length h.batches) c.held.ensures,
+    ) in
     records_before-failed c.args.session.now answers c.batches.place c.args.mixer.now c.batches.mixer _ within c.from_residual.ensures.1
     so_far.held so_far.seed (so_far.written answers by) (c.in_err-sent.ensures.written answers by)
 
@@ -25,7 +25,7 @@ batches-preserved g c =
           (so_far.written answers by) (c.in_ok-sent.ensures.written answers by);
       count = λ answers by.
           let here : c.in_ok-sent.field-0 ≡ place_count answers c.args.mixer.now.held.batches c.batches.place =
-              c.in_ok-sent.ensures.count answers by ∙ ap (λ (h : HeldData). place_count answers h.batches c.batches.place) so_far.held in
+          c.in_ok-sent.ensures.count answers by ∙ ap (λ (h : HeldData). place_count answers h.batches c.batches.place) so_far.held in
           omega (arith, so_far.count answers by, here, sent_before-more answers c.args.mixer.now.held.batches c.batches.place);
       within = omega (arith, so_far.within, c.in_ok-sent.ensures.within);
       held = c.in_ok-sent.ensures.held ∙ so_far.held;
@@ -36,11 +36,11 @@ batches-preserved g c =
 pub returns-clause-written : goal.returns-clause-written
 returns-clause-written g c answers by =
     let all : c.batches.place ≡ length c.args.mixer.now.held.batches = omega (
-          arith,
-          c.batches-test.false,
-          c.batches.auto.place-end,
-          c.batches-place-end.ensures.value,
-          ap (λ (h : HeldData). length h.batches) c.held.ensures,
-        ) in
+      arith,
+      c.batches-test.false,
+      c.batches.auto.place-end,
+      c.batches-place-end.ensures.value,
+      ap (λ (h : HeldData). length h.batches) c.held.ensures,
+    ) in
     Writes-same (ap (records_before c.args.session.now c.args.mixer.now.seed answers c.args.mixer.now.held.batches) (sym all))
     (c.batches.invariant.written answers by)

@@ -1,4 +1,4 @@
-use Rattle.std.proofs.Common.{◌≡◌, ◌≤◌, ◌+◌, ◌∙◌, arith, subst, sym}
+use Rattle.std.proofs.Common.{◌≤◌, ◌+◌, ◌∙◌, arith, subst, sym}
 use Rattle.bats_model.specs.PacketFile.{most_records}
 use Rattle.bats_model.specs.Session.{SessionData}
 use Rattle.tool_stream.specs.steps.Keeping.{HasShapeOf}
@@ -9,7 +9,7 @@ pub keep_item-taken-requires-clause-shape : goal.keep_item-taken-requires-clause
 keep_item-taken-requires-clause-shape g c =
     let so_far = c.requires.2 in
     let stands = stands_out _ _ c.args.self.now.intake c.args.session.now so_far.list c.take_intake-intake.result so_far.given.same_seed
-        c.take_intake-intake.ensures.stands so_far.given.as_far in
+    c.take_intake-intake.ensures.stands so_far.given.as_far in
     subst (λ (session : SessionData). HasShapeOf session c.args.item) (sym stands.held_session)
     (HasShapeOf-place c.args.session.now _ c.args.item so_far.place)
 
@@ -17,9 +17,9 @@ pub keep_item-taken-requires-clause-room : goal.keep_item-taken-requires-clause-
 keep_item-taken-requires-clause-room g c =
     let so_far = c.requires.2 in
     let stands = stands_out _ _ c.args.self.now.intake c.args.session.now so_far.list c.take_intake-intake.result so_far.given.same_seed
-        c.take_intake-intake.ensures.stands so_far.given.as_far in
+    c.take_intake-intake.ensures.stands so_far.given.as_far in
     let room : c.take_intake-intake.result.packets + 1 ≤ most_records =
-        has_room _ c.args.session.now so_far.list c.args.item _ c.take_intake-intake.result stands so_far.file in
+    has_room _ c.args.session.now so_far.list c.args.item _ c.take_intake-intake.result stands so_far.file in
     omega (arith, room)
 
 pub returns : goal.returns
