@@ -1,6 +1,6 @@
 -- The numbers of the held batches, and that what is sent place by place is what is sent of these numbers.
-use Rattle.std.proofs.Common.{ℕ, suc, ◌≡◌, ◌<◌, ◌+◌, ◌==◌, true, false, List, All, [], ◌∷◌, ◌++◌, length, map, flat_map, refl, sym, ap, ◌∙◌, subst, arith, inl, inr}
-use Rattle.std.specs.Prelude.{◌↔◌, sum_by, slice_index_or}
+use Rattle.std.proofs.Common.{ℕ, ◌≡◌, ◌<◌, ◌+◌, ◌==◌, List, All, [], ◌∷◌, ◌++◌, length, map, flat_map, refl, sym, ap, ◌∙◌, subst, arith, inl, inr}
+use Rattle.std.specs.Prelude.{sum_by, slice_index_or}
 use Rattle.std.specs.List.{Contains, range_with_len}
 use Rattle.std.specs.List.Sorted.{IsStrictlyIncreasing}
 use Rattle.std.proofs.lemmas.Bool.{cases_Bool, eqb-true}
@@ -17,7 +17,7 @@ use Rattle.bats_model.specs.declared.packet.Packet.{Packet}
 use Rattle.bats_batch.specs.Held.{HeldData, HeldBatch, HaveRisingNumbers, StandsFor, batch_at, kept_at, no_batch}
 use Rattle.bats_batch.proofs.HeldBatches.{kept_at-stands}
 use Rattle.tool_stream.specs.Relay.{AreHeld, batch_outputs, sent_packets, sent_record}
-use Rattle.tool_stream.specs.steps.Sending.{batch_records, held_records, output_record, place_count, place_records, sent_count}
+use Rattle.tool_stream.specs.steps.Sending.{batch_records, held_records, output_record, place_records, sent_count}
 
 -- the numbers of held batches
 abbrev pub numbers_of : List HeldBatch → List ℕ

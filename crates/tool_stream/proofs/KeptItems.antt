@@ -1,7 +1,7 @@
 -- What a relay's keeper has kept of the items of a packet file.
-use Rattle.std.proofs.Common.{ℕ, ◌≡◌, ◌≤◌, ◌+◌, true, cond, List, All, [], ◌∷◌, ◌++◌, length, Option, None, Some, Result, Ok, Err, refl, sym, ap, ◌∙◌, subst, arith, append-nil}
+use Rattle.std.proofs.Common.{ℕ, ◌≡◌, ◌≤◌, ◌+◌, true, cond, List, [], ◌∷◌, ◌++◌, length, Option, None, Some, Result, Ok, Err, refl, sym, ap, ◌∙◌, subst, arith, append-nil}
 use Rattle.std.proofs.lemmas.List.{length-append}
-use Rattle.std.proofs.lemmas.List.Elements.{All-weaker, All-nil}
+use Rattle.std.proofs.lemmas.List.Elements.{All-weaker}
 use Rattle.bats_io.specs.Streams.{OutputState}
 use Rattle.bats_format.proofs.JoinedFiles.{packets_of-append}
 use Rattle.bats_model.specs.Session.{SessionData}
@@ -16,14 +16,12 @@ use Rattle.bats_model.proofs.NewPackets.{kept_count-push}
 use Rattle.bats_batch.specs.Basis.{IsTaken}
 use Rattle.bats_batch.specs.Held.{HeldData, StandsFor, kept_at, row_count, max_kept}
 use Rattle.bats_batch.proofs.Offers.{row_count-stands}
-use Rattle.bats_relay.specs.Mixer.{MixerData, sent_of}
+use Rattle.bats_relay.specs.Mixer.{sent_of}
 use Rattle.tool_run.specs.declared.stop.Stop.{Stop}
-use Rattle.tool_run.specs.declared.stop.Stop.TheVariants as stops
 use Rattle.tool_records.specs.declared.walking.Taken.{Taken}
 use Rattle.tool_records.specs.declared.walking.Taken.TheVariants as takes
 use Rattle.tool_stream.specs.declared.keeping.Intake.{Intake}
-use Rattle.tool_stream.specs.Relay.{AreFew}
-use Rattle.tool_stream.specs.steps.Keeping.{HasShapeOf, Keeps, KeepsAs, StandsForAll, StandsForItems, TakesIn, TakesItem, IsOneTooMany, CameAfterFew}
+use Rattle.tool_stream.specs.steps.Keeping.{HasShapeOf, Keeps, KeepsAs, StandsForAll, StandsForItems, TakesIn, TakesItem, IsOneTooMany}
 
 -- ---- one packet
 

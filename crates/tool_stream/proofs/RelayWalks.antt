@@ -1,5 +1,5 @@
 -- `relay`, from its walk over the records and from what it sends.
-use Rattle.std.proofs.Common.{ℕ, ◌≡◌, ◌≤◌, ◌<◌, Bool, List, [], ◌∷◌, ◌++◌, length, take, Option, None, Some, IsSome, Result, Ok, Err, refl, sym, ap, ◌∙◌, subst, append-nil, arith, inl, inr}
+use Rattle.std.proofs.Common.{ℕ, ◌≡◌, Bool, List, [], ◌∷◌, ◌++◌, length, take, Option, None, Some, IsSome, Result, Ok, Err, refl, sym, ap, ◌∙◌, subst, append-nil, arith, inl, inr}
 use Rattle.std.specs.Prelude.{string_bytes}
 use Rattle.std.specs.Result.{IsErrAnd}
 use Rattle.std.proofs.lemmas.Bool.{cases_lt}
@@ -12,11 +12,10 @@ use Rattle.bats_model.specs.Session.{SessionData}
 use Rattle.bats_model.specs.Records.{header_record}
 use Rattle.bats_model.specs.Kept.{kept_count, new_after}
 use Rattle.bats_model.specs.PacketFile.{IsPacketFile, BeginsWithHeader, packets_of, record_of}
-use Rattle.bats_model.specs.declared.packet.Packet.{Packet}
 use Rattle.bats_model.specs.declared.item.Item.{Item}
 use Rattle.bats_model.specs.declared.item.Item.TheVariants as items
 use Rattle.bats_model.specs.declared.read_end.ReadEnd.{ReadEnd}
-use Rattle.bats_batch.specs.Held.{HeldData, HeldBatch, max_kept}
+use Rattle.bats_batch.specs.Held.{HeldBatch, max_kept}
 use Rattle.tool_run.specs.declared.finish.Finish.{Finish}
 use Rattle.tool_run.specs.declared.status.Status.TheVariants as statuses
 use Rattle.tool_run.specs.declared.stop.Stop.{Stop}
@@ -24,14 +23,11 @@ use Rattle.tool_run.specs.declared.stop.Stop.TheVariants as stops
 use Rattle.tool_run.specs.Attempt.{Attempts, AttemptsAs, IsOfEnding}
 use Rattle.tool_run.specs.Ending.{Ending}
 use Rattle.tool_run.specs.Promise.{Keeps}
-use Rattle.tool_run.specs.Run.{WritesPart}
 use Rattle.tool_run.specs.Streams.{Ends}
 use Rattle.tool_run.specs.Writes.{Writes, AppendsAsFar}
 use Rattle.tool_run.proofs.Begun.{IsBegun-whole, IsBegun-front}
 use Rattle.tool_run.proofs.Writing.{Writes-same, Writes-exit_memory}
-use Rattle.tool_records.specs.declared.walking.Taken.{Taken}
 use Rattle.tool_records.specs.declared.walking.Taken.TheVariants as takes
-use Rattle.tool_records.specs.declared.walking.WalkEnd.{WalkEnd}
 use Rattle.tool_records.specs.declared.walking.WalkEnd.TheVariants as walks
 use Rattle.tool_records.specs.Reading.{refusal_status, refusal_line, refused_ending}
 use Rattle.tool_records.specs.ReadsRecords.{ReadsOn, ReadsRecords}

@@ -1,4 +1,4 @@
-use Rattle.std.proofs.Common.{refl, sym, subst, arith, ◌≤◌, List}
+use Rattle.std.proofs.Common.{refl, sym, subst, arith}
 use Rattle.bats_batch.specs.Held.{HeldData, StandsFor}
 use Rattle.tool_stream.proofs.KeptItems.{one_too_many, TakesIn-packet}
 use Rattle.tool_stream.proofs.keeping.keep.Goals as goal

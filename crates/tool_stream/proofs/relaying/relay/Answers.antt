@@ -1,4 +1,4 @@
-use Rattle.std.proofs.Common.{ℕ, ◌≡◌, ◌∙◌, List, Option, Ok, Some, refl, sym, subst}
+use Rattle.std.proofs.Common.{◌∙◌, Option, Ok, Some, refl, sym, subst}
 use Rattle.tool_run.specs.declared.stop.Stop.TheVariants as stops
 use Rattle.tool_run.specs.Streams.{Ends}
 use Rattle.tool_run.proofs.Attempts.{Attempts-exit}

@@ -1,4 +1,3 @@
-use Rattle.std.proofs.Common.{refl}
 use Rattle.tool_run.proofs.Writing.{Writes-after}
 use Rattle.tool_stream.proofs.sending.send.Goals as goal
 

@@ -1,4 +1,4 @@
-use Rattle.std.proofs.Common.{ℕ, ◌≡◌, ◌<◌, ◌∙◌, arith}
+use Rattle.std.proofs.Common.{◌<◌, ◌∙◌, arith}
 use Rattle.bats_relay.specs.Mixer.{sent_of}
 use Rattle.tool_stream.proofs.SentBatches.{batch_records-more, batch_records-failed}
 use Rattle.tool_stream.proofs.sending.send_batch.Goals as goal

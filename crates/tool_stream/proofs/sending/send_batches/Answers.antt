@@ -1,4 +1,4 @@
-use Rattle.std.proofs.Common.{ℕ, ◌≡◌, ◌<◌, ◌+◌, ◌∙◌, ap, sym, arith, length}
+use Rattle.std.proofs.Common.{◌≡◌, ◌<◌, ◌∙◌, ap, sym, arith, length}
 use Rattle.bats_batch.specs.Held.{HeldData}
 use Rattle.tool_run.proofs.Writing.{Writes-same}
 use Rattle.tool_stream.specs.steps.Sending.{place_count}

@@ -1,4 +1,4 @@
-use Rattle.std.proofs.Common.{◌≡◌, ℕ, rules}
+use Rattle.std.proofs.Common.{rules}
 use Rattle.tool_stream.specs.Relay.{output_count}
 use Rattle.tool_stream.proofs.sending.send_by_rule.Goals as goal
 

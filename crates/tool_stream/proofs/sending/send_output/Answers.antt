@@ -1,4 +1,3 @@
-use Rattle.std.proofs.Common.{refl}
 use Rattle.tool_run.proofs.Writing.{Writes-same}
 use Rattle.tool_stream.proofs.SentBatches.{output_record-made}
 use Rattle.tool_stream.proofs.sending.send_output.Goals as goal

@@ -1,4 +1,4 @@
-use Rattle.std.proofs.Common.{ℕ, ◌≡◌, ◌≤◌, ◌∙◌, ap, refl, sym, arith, append-nil, []}
+use Rattle.std.proofs.Common.{◌≤◌, ◌∙◌, ap, sym, arith, append-nil, []}
 use Rattle.bats_batch.specs.Basis.{BasisData}
 use Rattle.bats_batch.specs.Held.{HeldData}
 use Rattle.bats_model.specs.Session.{SessionData}

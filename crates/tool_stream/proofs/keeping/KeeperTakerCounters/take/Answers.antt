@@ -1,4 +1,4 @@
-use Rattle.std.proofs.Common.{◌≡◌, ◌≤◌, ◌+◌, ◌∙◌, arith, subst, sym}
+use Rattle.std.proofs.Common.{◌≤◌, ◌+◌, ◌∙◌, arith, subst, sym}
 use Rattle.bats_model.specs.PacketFile.{most_records}
 use Rattle.bats_model.specs.Session.{SessionData}
 use Rattle.tool_stream.specs.steps.Keeping.{HasShapeOf}
