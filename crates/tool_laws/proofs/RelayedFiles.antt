@@ -21,7 +21,7 @@ use Rattle.bats_relay.proofs.OutputRows.{batch-output}
 use Rattle.bats_relay.proofs.RelayedPackets.{Agrees-outputs_of, HasShape-outputs_of}
 use Rattle.tool_run.specs.Ending.{Ending}
 use Rattle.tool_run.specs.declared.status.Status.TheVariants as statuses
-use Rattle.tool_stream.specs.Relay.{AreHeld, AreFew, RelaySends, IsRelayEnding, output_count, batch_outputs, sent_packets, relayed_ending}
+use Rattle.tool_stream.specs.Relay.{AreHeld, AreFew, RelaySends, IsRelayEnding, most_outputs, output_count, batch_outputs, sent_packets, relayed_ending}
 use Rattle.tool_laws.proofs.OneReading.{IsRefused-reading}
 use Rattle.tool_laws.proofs.SentPackets.{IsFileOf, file_of}
 
@@ -47,6 +47,7 @@ All-flat_map P f (n ∷ numbers) h =
     All-append P (f n) (flat_map f numbers) (All-head (λ x. All P (f x)) n numbers h)
     (All-flat_map P f numbers (All-tail (λ x. All P (f x)) n numbers h))
 
+-- an output of a held batch
 IsOutputOf-batch : (session : SessionData) (seed : List ℕ) (packets : List Packet) (batch number : ℕ)
     → 0 < length (kept_of batch packets)
     → IsOutputOf session packets (relay_output session seed batch number (kept_of batch packets))
@@ -82,6 +83,7 @@ are_outputs session seed rule packets numbers held =
 abbrev others_than : ℕ → List Packet → List Packet
 others_than batch packets = filter (λ packet. not (packet.batch == batch)) packets
 
+-- a packet counts on one side of a test or on the other
 in_two : (b : Bool) (packet : Packet) (us vs : List Packet)
     → length (cond b (packet ∷ us) us) + length (cond (not b) (packet ∷ vs) vs) ≡ (length us + length vs) + 1
 in_two true packet us vs = omega arith
@@ -97,6 +99,7 @@ count_in_two batch (packet ∷ packets) =
       count_in_two batch packets,
     )
 
+-- packets that a test doesn't pass may be left out before it
 skip : (q : Packet → Bool) (b : Bool) (packet : Packet) (us vs : List Packet) → (b ≡ true → q packet ≡ false)
     → filter q us ≡ filter q vs → filter q (cond (not b) (packet ∷ us) us) ≡ filter q (packet ∷ vs)
 skip q true packet us vs f e = e ∙ sym (ap (λ (c : Bool). cond c (packet ∷ filter q vs) (filter q vs)) (f refl))
@@ -116,6 +119,7 @@ others_stay batch other (packet ∷ packets) below =
     skip (λ p. p.batch == other) (packet.batch == batch) packet (others_than batch packets) packets
     (apart packet.batch other batch below) (others_stay batch other packets below)
 
+-- rising numbers, each of which some packet has, are no more than the packets
 few_numbers : (numbers : List ℕ) (packets : List Packet) → AllPairs (λ x y. x < y) numbers
     → All (λ number. 0 < length (packets_in number packets)) numbers → length numbers ≤ length packets
 few_numbers [] packets rising some = omega arith
@@ -136,30 +140,30 @@ few_held packets numbers held =
 
 -- ---- how many packets are sent
 
-count_flat : (f : ℕ → List Packet) (numbers : List ℕ) → ((n : ℕ) → length (f n) ≤ 96)
-    → length (flat_map f numbers) ≤ length numbers * 96
+count_flat : (f : ℕ → List Packet) (numbers : List ℕ) → ((n : ℕ) → length (f n) ≤ most_outputs)
+    → length (flat_map f numbers) ≤ length numbers * most_outputs
 count_flat f [] h = omega arith
 count_flat f (n ∷ numbers) h = omega (arith, h n, count_flat f numbers h, length-append (f n) (flat_map f numbers))
 
 least : (a b : ℕ) → min a b ≤ b
 least a b = omega arith
 
-fixed_most : (count : ℕ) (b : Bool) → count ≤ 64 → (if b then 0 else count) ≤ 96
+fixed_most : (count : ℕ) (b : Bool) → count ≤ 64 → (if b then 0 else count) ≤ most_outputs
 fixed_most count true h = omega arith
 fixed_most count false h = omega arith
 
-extra_most : (m count rank : ℕ) (b : Bool) → m ≤ 32 → count ≤ 64 → (if b then 0 else min rank m + count) ≤ 96
+extra_most : (m count rank : ℕ) (b : Bool) → m ≤ 32 → count ≤ 64 → (if b then 0 else min rank m + count) ≤ most_outputs
 extra_most m count rank true l h = omega arith
 extra_most m count rank false l h = omega (arith, least rank m)
 
 most_of_rule : (session : SessionData) (extra : Bool) (count rank : ℕ) → session.m ≤ 32 → count ≤ 64
-    → output_count session extra count rank ≤ 96
+    → output_count session extra count rank ≤ most_outputs
 most_of_rule session true count rank l h = extra_most session.m count rank (rank == 0) l h
 most_of_rule session false count rank l h = fixed_most count (rank == 0) h
 
 count_sent : (session : SessionData) (seed : List ℕ) (extra : Bool) (count : ℕ) (packets : List Packet) (numbers : List ℕ)
     → session.m ≤ 32 → count ≤ 64
-    → length (sent_packets session seed (output_count session extra count) packets numbers) ≤ length numbers * 96
+    → length (sent_packets session seed (output_count session extra count) packets numbers) ≤ length numbers * most_outputs
 unfolding sent_packets
 count_sent session seed extra count packets numbers l h =
     count_flat (batch_outputs session seed (output_count session extra count) packets) numbers
@@ -205,6 +209,7 @@ relayed_file seed extra count session list input numbers small file few held =
 
 -- ---- endings with status 0
 
+-- the input's reading is the one that the ending tells of
 sends_as_read : (seed : List ℕ) (extra : Bool) (count : ℕ) (session : SessionData) (list : List Item) (input : List ℕ)
     (ending : Ending) → count ≤ 64 → IsPacketFile session list input → RelaySends seed extra count input ending
     → SendsOutputs session (packets_of list) ending.output
@@ -218,6 +223,7 @@ sends_as_read seed extra count session list input ending small file h =
 limit_not_done : statuses.Limit ≡ statuses.Done → ⊥
 limit_not_done e = cc
 
+-- a packet file isn't refused, and an input with too many new packets isn't done
 pub sends_what_agrees : (seed : List ℕ) (extra : Bool) (count : ℕ) (session : SessionData) (list : List Item) (input : List ℕ)
     (ending : Ending) → count ≤ 64 → IsPacketFile session list input → IsRelayEnding seed extra count input ending
     → ending.status ≡ statuses.Done → SendsOutputs session (packets_of list) ending.output
