@@ -3,3 +3,4 @@ mod SentPackets
 mod GivenBack
 mod AllSymbols
 mod SourceAndSink
+mod RelayedFiles

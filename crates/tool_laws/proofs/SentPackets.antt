@@ -31,7 +31,7 @@ use Rattle.tool_source.proofs.Endings.{done_ending, source_ending-done}
 -- ---- packets, one after another
 
 -- the record of a packet
-abbrev record_in : Packet → List ℕ
+abbrev pub record_in : Packet → List ℕ
 record_in packet = packet_record packet.batch packet.coefs packet.payload
 
 -- the items of these packets, from an offset on
@@ -72,7 +72,7 @@ pub record IsFileOf (session : SessionData) (packets : List Packet) (bytes : Lis
   pub of_packets : packets_of list ≡ packets
 
 -- the header, and then the records of packets of the session
-file_of : (session : SessionData) (packets : List Packet) → IsSession session → All (HasShape session) packets
+pub file_of : (session : SessionData) (packets : List Packet) → IsSession session → All (HasShape session) packets
     → length packets < most_records → IsFileOf session packets (header_record session ++ flat_map record_in packets)
 unfolding AreItemsFrom record_of packets_of
 file_of session packets h shapes few = record {

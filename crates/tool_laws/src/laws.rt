@@ -6,10 +6,11 @@ ghost use Rattle.bats_model.specs.Bytes.{AreBytes};
 ghost use Rattle.bats_model.specs.Session.{SessionData, symbols_of, symbol_count, max_symbols};
 ghost use Rattle.bats_model.specs.PacketFile.{IsPacketFile, packets_of};
 ghost use Rattle.bats_model.specs.Agreement.{AgreesWithAll};
+ghost use Rattle.bats_model.specs.Relay.{IsOutputOf};
 ghost use Rattle.bats_model.specs.declared.item.Item.{Item};
 ghost use Rattle.bats_words.specs.declared.command.Command.TheVariants as commands;
 ghost use Rattle.bats_words.specs.declared.source_options.SourceOptions.{SourceOptions};
-ghost use Rattle.bats_words.specs.Options.{HasRanges, IsSeed, source_options};
+ghost use Rattle.bats_words.specs.Options.{HasCount, HasRanges, IsSeed, source_options};
 ghost use Rattle.bats_words.specs.Words.{command_of};
 ghost use Rattle.tool_run.specs.declared.status.Status.TheVariants as statuses;
 ghost use Rattle.tool_run.specs.Ending.{Ending};
@@ -17,6 +18,7 @@ ghost use Rattle.tool_run.specs.Promise.{reads_nothing};
 ghost use Rattle.tool_source.specs.FileSession.{session_for};
 ghost use Rattle.tool_source.specs.Source.{source_promise};
 ghost use Rattle.tool_sink.specs.Sink.{sink_promise};
+ghost use Rattle.tool_stream.specs.Relay.{relay_promise};
 ghost use Rattle.tool_stream.specs.Show.{show_promise};
 ghost use Rattle.tool_laws.specs.GivesBack.{GivesBack};
 
@@ -107,4 +109,17 @@ pub fn sink_after_source()
         → (source_promise (source_options m t table true seed 0 batches)).ends file sent
         → sent.status ≡ statuses.Done → (sink_promise both).ends sent.output ending
         → (ending.status ≡ statuses.Done) × (ending.output ≡ file) }
+{}
+
+/// What `relay` writes of a packet file, where it ends as done, is a packet file of the same session. Each of its packets
+/// is an output of a relay that took the input's packets, and each file that agrees with all of the input's packets
+/// agrees with all of these. The count is that of the relay's rule, in the range that words are held to.
+pub fn relay_sends_what_agrees()
+    ensures { (seed : List ℕ) (extra : Bool) (count : ℕ) (session : SessionData) (list : List Item) (input : List ℕ)
+        (ending : Ending) → HasCount count → IsPacketFile session list input
+        → (relay_promise seed extra count).ends input ending → ending.status ≡ statuses.Done
+        → (sent : List Item) × (IsPacketFile session sent ending.output
+        × All (IsOutputOf session (packets_of list)) (packets_of sent)
+        × ((file : List ℕ) → AgreesWithAll session (packets_of list) file
+        → AgreesWithAll session (packets_of sent) file)) }
 {}
