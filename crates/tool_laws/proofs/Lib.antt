@@ -1,4 +1,5 @@
 mod OneReading
+mod SinkReach
 mod SentPackets
 mod GivenBack
 mod AllSymbols

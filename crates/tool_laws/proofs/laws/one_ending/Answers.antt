@@ -1,6 +1,6 @@
 use Rattle.std.proofs.Common.{sym, ◌∙◌}
-use Rattle.tool_sink.proofs.SinkEndings.{IsSinkEnding-agree}
 use Rattle.tool_laws.proofs.OneReading.{one_show}
+use Rattle.tool_laws.proofs.SinkReach.{one_sink}
 use Rattle.tool_laws.proofs.laws.one_ending.Goals as goal
 
 pub returns-clause-nothing : goal.returns-clause-nothing
@@ -10,7 +10,7 @@ pub returns-clause-source : goal.returns-clause-source
 returns-clause-source c = λ options input ending other h k. h ∙ sym k
 
 pub returns-clause-sink : goal.returns-clause-sink
-returns-clause-sink c = IsSinkEnding-agree
+returns-clause-sink c = one_sink
 
 pub returns-clause-show : goal.returns-clause-show
 returns-clause-show c = one_show
