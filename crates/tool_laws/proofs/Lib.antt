@@ -1,5 +1,6 @@
 mod OneReading
 mod SinkReach
+mod OneRelay
 mod SentPackets
 mod GivenBack
 mod AllSymbols

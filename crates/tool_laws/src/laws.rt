@@ -35,6 +35,9 @@ pub fn one_ending()
         × ((ending.output ≡ other.output) ⊎ (ending.status ≡ statuses.NeedMore)) }
     ensures show { (input : List ℕ) (ending other : Ending)
         → show_promise.ends input ending → show_promise.ends input other → ending ≡ other }
+    ensures relay { (seed : List ℕ) (extra : Bool) (count : ℕ) (input : List ℕ) (ending other : Ending)
+        → (relay_promise seed extra count).ends input ending → (relay_promise seed extra count).ends input other
+        → ending ≡ other }
 {}
 
 /// What `source` writes of a file that is not too long is a packet file of the file's session, with batches times m

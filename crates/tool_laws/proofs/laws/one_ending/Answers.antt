@@ -1,5 +1,6 @@
 use Rattle.std.proofs.Common.{sym, ◌∙◌}
 use Rattle.tool_laws.proofs.OneReading.{one_show}
+use Rattle.tool_laws.proofs.OneRelay.{one_relay}
 use Rattle.tool_laws.proofs.SinkReach.{one_sink}
 use Rattle.tool_laws.proofs.laws.one_ending.Goals as goal
 
@@ -14,3 +15,6 @@ returns-clause-sink c = one_sink
 
 pub returns-clause-show : goal.returns-clause-show
 returns-clause-show c = one_show
+
+pub returns-clause-relay : goal.returns-clause-relay
+returns-clause-relay c = one_relay
