@@ -1,2 +1,4 @@
 pub mod Repeats
 pub mod Decoder
+pub mod SolvingPlan
+pub mod steps

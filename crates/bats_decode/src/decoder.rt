@@ -1,24 +1,31 @@
-ghost use Rattle.std.specs.Prelude.{◌≡◌, ◌≢◌, true, ◌↔◌, ◌<◌, ◌≤◌, ◌+◌, ◌-◌, ◌^◌, min, ◌++◌, ◌∷◌, [], ℕ, List, length, IfOk, OnOk, OnErr};
+//! The decoder: what was received, and its solving.
+ghost use Rattle.std.specs.Prelude.{◌≡◌, ◌<◌, ◌≤◌, ◌+◌, ◌*◌, ◌++◌, ◌∷◌, [], List, All, length, IfOk, IfErr, OnOk, OnErr};
 
-use crate::symbols::{
-    first_unknown, known_count, pad_file, pad_known, take_in_and_compare, with_byte,
-};
-use bats_model::{Answer, Bytes, Packet, Session, unit_place};
-use gf_rows::Steps;
+use crate::answering::answer;
+use crate::elimination::{Place, eliminate};
+use crate::payload_rows::PayloadRows;
+use bats_batch::{Held, HeldEnd};
+use bats_model::{Answer, Nums, Packet, Session, Taken};
+use gf_rows::{Plan, Steps};
 use std::alloc::{AllocError, Global};
 use std::marker::Model;
 use std::sync::ledger::Ledger;
 use std::thread::Threads;
 
 /// What the received packets say of the file, and how many there are.
-#[derive(Debug, Drop)]
+#[derive(Drop)]
 pub struct Solved {
     /// What they say of the file.
     pub answer: Answer,
     /// The number of received packets, which stays at 2^64 - 1 once it is there.
     pub packets: u64,
-    /// The number of received packets that aren't repeats.
+    /// The number of received packets that are kept.
     pub kept: u32,
+    /// The operations that were run on the payload rows, which are those of the kept packets: by rising batch number and,
+    /// within a batch, in the order kept.
+    pub plan: Plan,
+    /// Where the answer is a file, the row of each symbol once the plan was run; else empty.
+    pub rows: Nums,
 }
 
 /// What was received of a session's file.
@@ -26,143 +33,108 @@ pub struct Solved {
 pub struct Decoder {
     alloc: Global,
     session: Session,
-    file: Vec<u8>,
-    known: Vec<bool>,
+    held: Held,
     contradicted: bool,
     packets: u64,
 }
 
 impl Model for Decoder {
-    ghost use Rattle.std.specs.Prelude.{◌≤◌, ◌+◌, length};
-    ghost use Rattle.bats_model.specs.Session.{symbols_of};
+    ghost use Rattle.std.specs.Prelude.{◌≡◌};
     ghost use Rattle.bats_decode.specs.Decoder.{DecoderData};
 
     ghost Value = { DecoderData };
 
-    ghost view = { λ d. record {
-      session = d.session;
-      file = d.file.items;
-      known = d.known.items;
-      contradicted = d.contradicted;
-      packets = d.packets;
-    } };
+    ghost view = { λ d. record { held = d.held; contradicted = d.contradicted; packets = d.packets } };
 
-    ghost invariant = { λ d. (length d.file.items ≤ d.session.file_length)
-        × (length d.known.items ≤ symbols_of d.session + d.session.m) };
+    ghost invariant = { λ d. d.held.session ≡ d.session };
+}
+
+ghost use Rattle.bats_model.specs.Session.{symbols_of};
+ghost use Rattle.bats_model.specs.RightAnswer.{IsRightAnswer};
+ghost use Rattle.bats_model.specs.Kept.{kept_count};
+ghost use Rattle.bats_model.specs.declared.packet.Packet.{Packet};
+ghost use Rattle.bats_model.specs.declared.taken.Taken.TheVariants.{Kept};
+ghost use Rattle.bats_batch.specs.Basis.{IsTaken};
+ghost use Rattle.bats_batch.specs.Held.{kept_at, max_kept, row_count};
+ghost use Rattle.bats_batch.specs.declared.held.HeldEnd.TheVariants.{Full};
+ghost use Rattle.gf_rows.specs.Operation.{FitsRows};
+ghost use Rattle.bats_decode.specs.Decoder.{StandsFor, kept_packets};
+ghost use Rattle.bats_decode.specs.SolvingPlan.{PlanFollows};
+
+// The rows of the symbols that have one.
+fn rows_of(alloc: Global, places: &[Place]) -> Result<Nums, AllocError> {
+    let mut rows = Nums::new(alloc);
+    for place in places {
+        if let Place::Row(r) = place {
+            rows.push(*r)?;
+        }
+    }
+    Ok(rows)
+}
+
+// The rows of the symbols, where the answer is a file.
+fn rows_for(alloc: Global, answer: &Answer, places: &[Place]) -> Result<Nums, AllocError> {
+    match answer {
+        Answer::File(_) => rows_of(alloc, places),
+        _ => Ok(Nums::new(alloc)),
+    }
 }
 
 impl Decoder {
-    ghost use Rattle.bats_model.specs.Session.{IsSession, symbols_of};
-    ghost use Rattle.bats_model.specs.Agreement.{IsFile};
-    ghost use Rattle.bats_model.specs.Plain.{IsPlain, IsSymbol};
-    ghost use Rattle.bats_model.specs.RightAnswer.{IsRightAnswer};
-    ghost use Rattle.bats_model.specs.declared.packet.Packet.{Packet};
-    ghost use Rattle.bats_model.specs.Kept.{kept_count};
-    ghost use Rattle.bats_decode.specs.Decoder.{StandsFor, Fits, is_known};
-
     /// A decoder that has received nothing. It takes no memory.
     pub fn new(alloc: Global, session: Session) -> Decoder
-        ensures session { result.session ≡ session }
+        ensures session { result.held.session ≡ session }
         ensures empty { StandsFor [] result }
     {
         Decoder {
             alloc,
             session,
-            file: Vec::new(alloc),
-            known: Vec::new(alloc),
+            held: Held::new(alloc, session),
             contradicted: false,
             packets: 0,
         }
     }
 
-    // Makes room for the whole file and all places.
-    fn prepare(&mut self) -> Result<(), AllocError>
-        ensures session { self.new.session ≡ self.old.session }
-        ensures packets { self.new.packets ≡ self.old.packets }
-        ensures same { (file : List ℕ) → Fits self.old.session self.new file ↔ Fits self.old.session self.old file }
-        ensures places { (q : ℕ) → is_known self.new.known q ≡ is_known self.old.known q }
-        ensures file { OnOk result (length self.new.file ≡ self.new.session.file_length) }
-        ensures known { OnOk result (length self.new.known ≡ symbols_of self.new.session + self.new.session.m) }
+    /// The held batches, which stand for the received packets.
+    pub fn held(&self) -> &Held
+        ensures { result.now ≡ self.now.held }
     {
-        let places = self.session.symbols() as usize + usize::from(self.session.m());
-        let size = self.session.length() as usize;
-        pad_known(&mut self.known, places)?;
-        pad_file(&mut self.file, size)?;
-        Ok(())
+        &self.held
     }
 
-    // Counts a packet, and takes in that the bytes of its place are the payload.
-    fn receive(&mut self, place: usize, payload: &[u8])
-        requires limits { IsSession self.old.session }
-        requires file { length self.old.file ≡ self.old.session.file_length }
-        requires known { length self.old.known ≡ symbols_of self.old.session + self.old.session.m }
-        requires place { place < length self.old.known }
-        requires payload { length payload.now ≡ self.old.session.t }
-        ensures session { self.new.session ≡ self.old.session }
-        ensures packets { self.new.packets ≡ min (self.old.packets + 1) (2 ^ 64 - 1) }
-        ensures fits { (file : List ℕ) → IsFile self.old.session file → Fits self.old.session self.new file
-            ↔ (Fits self.old.session self.old file × IsSymbol self.old.session file place payload.now) }
-        ensures here { is_known self.new.known place ≡ true }
-        ensures elsewhere { (q : ℕ) → q ≢ place → is_known self.new.known q ≡ is_known self.old.known q }
-    {
-        self.packets = self.packets.saturating_add(1);
-        if !take_in_and_compare(&mut self.file, &mut self.known, place, payload) {
-            self.contradicted = true;
-        }
-    }
-
-    /// Receives a plain packet of M coefficients and T payload bytes. After an `Err` the decoder stands for the
-    /// packets that it stood for before.
+    /// Receives a packet of M coefficients and T payload bytes. `Full` comes where it is new and 8,192 packets are kept.
+    /// After an `Err` what was received is as before. It is at most M steps on each counter.
     pub fn offer<C: Ledger, L: Ledger>(
         &mut self,
         packet: &Packet,
         coef_steps: &mut Steps<C>,
         steps: &mut Steps<L>,
-    ) -> Result<(), AllocError>
-        requires plain { IsPlain self.old.session packet.now }
-        requires coefs { length packet.now.coefs ≡ self.old.session.m }
-        requires payload { length packet.now.payload ≡ self.old.session.t }
-        ensures session { self.new.session ≡ self.old.session }
+    ) -> Result<(), HeldEnd>
+        requires coefs { length packet.now.coefs ≡ self.old.held.session.m }
+        requires payload { length packet.now.payload ≡ self.old.held.session.t }
+        ensures session { self.new.held.session ≡ self.old.held.session }
         ensures ok { OnOk result ((packets : List Packet) → StandsFor packets self.old
             → StandsFor (packets ++ packet.now ∷ []) self.new) }
-        ensures err { OnErr result ((packets : List Packet) → StandsFor packets self.old
-            → StandsFor packets self.new) }
-        ensures coef_steps { coef_steps.new ≡ coef_steps.old }
-        ensures steps { steps.new ≡ steps.old }
+        ensures err { OnErr result (self.new ≡ self.old) }
+        ensures room { OnOk result (IsTaken (kept_at self.old.held.batches packet.now.batch) packet.now Kept
+            → row_count self.old.held.batches < max_kept) }
+        ensures full { IfErr result (λ e. e ≡ Full → ((row_count self.old.held.batches ≡ max_kept)
+            × IsTaken (kept_at self.old.held.batches packet.now.batch) packet.now Kept)) }
+        ensures coef_steps { coef_steps.new ≤ coef_steps.old + self.old.held.session.m }
+        ensures steps { steps.new ≤ steps.old + self.old.held.session.m }
+        ensures coef_steps_rise { coef_steps.old ≤ coef_steps.new }
+        ensures steps_rise { steps.old ≤ steps.new }
     {
-        self.prepare()?;
-        let Some(column) = unit_place(packet.coefs.as_slice()) else {
-            unreachable!()
-        };
-        let place = packet.batch as usize * usize::from(self.session.m()) + column;
-        self.receive(place, packet.payload.as_slice());
+        let taken = self.held.offer(packet, coef_steps, steps)?;
+        self.packets = self.packets.saturating_add(1);
+        if taken == Taken::Contradiction {
+            self.contradicted = true;
+        }
         Ok(())
     }
 
-    // What the received packets say of the file.
-    fn answer(self) -> Result<Answer, AllocError>
-        ensures { IfOk result (λ answer. (packets : List Packet) → StandsFor packets self
-            → IsRightAnswer self.session packets answer) }
-    {
-        if self.contradicted {
-            return Ok(Answer::Inconsistent);
-        }
-        let mut file = self.file;
-        pad_file(&mut file, self.session.length() as usize)?;
-        let Some(at_symbol) = first_unknown(&self.known, self.session.symbols()) else {
-            return Ok(Answer::File(Bytes::from(file)));
-        };
-        let place = at_symbol as usize * usize::from(self.session.t());
-        let first = with_byte(self.alloc, &file, place, 0)?;
-        let second = with_byte(self.alloc, &file, place, 1)?;
-        Ok(Answer::NeedMore {
-            at_symbol,
-            first,
-            second,
-        })
-    }
-
-    /// What the received packets say of the file. The number of workers is 1 to 64.
+    /// What the received packets say of the file. The number of workers is 1 to 64. Each operation of the plan is a step on
+    /// the payload rows, and one on their coefficients. An `Err` is want of memory, and drops what was received.
     pub fn solve<R: Threads + Sync, C: Ledger, L: Ledger>(
         self,
         rt: &R,
@@ -172,20 +144,41 @@ impl Decoder {
     ) -> Result<Solved, AllocError>
         requires { (1 ≤ workers) × (workers ≤ 64) }
         ensures right { IfOk result (λ solved. (packets : List Packet) → StandsFor packets self
-            → IsRightAnswer self.session packets solved.answer) }
+            → IsRightAnswer self.held.session packets solved.answer) }
         ensures packets { IfOk result (λ solved. solved.packets ≡ self.packets) }
         ensures kept { IfOk result (λ solved. (packets : List Packet) → StandsFor packets self
             → solved.kept ≡ kept_count packets) }
-        ensures coef_steps { coef_steps.new ≡ coef_steps.old }
-        ensures steps { steps.new ≡ steps.old }
+        ensures fits { IfOk result (λ solved. All (FitsRows (row_count self.held.batches)) solved.plan) }
+        ensures plan { IfOk result (λ solved. (packets : List Packet) → StandsFor packets self
+            → PlanFollows self.held.session (kept_packets self.held.batches) solved.plan solved.rows solved.answer) }
+        ensures counted { IfOk result (λ solved. steps.new ≡ steps.old + length solved.plan) }
+        ensures coef_counted { IfOk result (λ solved. coef_steps.new ≡ coef_steps.old + length solved.plan) }
+        ensures coef_steps { coef_steps.new ≤ coef_steps.old + row_count self.held.batches * symbols_of self.held.session }
     {
+        let session = self.session;
+        let alloc = self.alloc;
         let packets = self.packets;
-        let kept = known_count(&self.known);
-        let answer = self.answer()?;
+        let kept = self.held.rows();
+        if self.contradicted {
+            return Ok(Solved {
+                answer: Answer::Inconsistent,
+                packets,
+                kept,
+                plan: Plan::new(alloc),
+                rows: Nums::new(alloc),
+            });
+        }
+        let e = eliminate(alloc, &session, &self.held, coef_steps)?;
+        let mut payload = PayloadRows::of_kept(alloc, &session, self.held)?;
+        payload.replay(&e.plan, steps);
+        let answer = answer(alloc, &session, &e, &payload)?;
+        let rows = rows_for(alloc, &answer, &e.places)?;
         Ok(Solved {
             answer,
             packets,
             kept,
+            plan: e.plan,
+            rows,
         })
     }
 }

@@ -1,0 +1,4 @@
+pub mod Equations
+pub mod Eliminated
+pub mod Replayed
+pub mod Answered
