@@ -1,2 +1,4 @@
 pub mod EquationLemmas
 pub mod KeptPackets
+pub mod AgreeingColumns
+pub mod AnswersRight
