@@ -2,3 +2,4 @@ pub mod EquationLemmas
 pub mod KeptPackets
 pub mod AgreeingColumns
 pub mod AnswersRight
+pub mod RaisedFiles

@@ -1,8 +1,12 @@
 //! The answer that the elimination and the payload rows after its plan give.
-ghost use Rattle.std.specs.Prelude.{◌≡◌, IfOk, length};
-ghost use Rattle.gf_rows.specs.Matrix.{IsMatrix};
-ghost use Rattle.bats_decode.specs.steps.Eliminated.{IsShaped};
-ghost use Rattle.bats_decode.specs.steps.Answered.{IsAnswerOf};
+ghost use Rattle.std.specs.Prelude.{ℕ, ◌≡◌, ◌≢◌, ◌<◌, ◌≤◌, ◌+◌, ◌*◌, ◌↔◌, ◌⊎◌, IsTrue, IfOk, MatchOption, All, length, slice_index, slice_index_or, slice_set};
+ghost use Rattle.gf_core.specs.Field.{gf_add};
+ghost use Rattle.gf_rows.specs.Matrix.{IsMatrix, matrix_entry};
+ghost use Rattle.bats_model.specs.Session.{symbols_of};
+ghost use Rattle.bats_model.specs.Agreement.{IsFile};
+ghost use Rattle.bats_decode.specs.declared.elimination.Place.TheVariants.{Row};
+ghost use Rattle.bats_decode.specs.steps.Eliminated.{IsShaped, IsPlaceWithin, place_of};
+ghost use Rattle.bats_decode.specs.steps.Answered.{IsAnswerOf, PaddingHolds, IsFound, IsRaised, OpensFirst, NoneIsOpen, byte_at_place, change_at};
 
 use crate::elimination::{Elimination, Place};
 use crate::payload_rows::PayloadRows;
@@ -14,12 +18,16 @@ use std::alloc::{AllocError, Global};
 #[derive(Clone, Copy)]
 struct Open {
     symbol: u32,
-    free: u32,
+    free: usize,
 }
 
 // Whether each of these rows is 0.
-fn rows_are_zero(payload: &PayloadRows, rows: &[u32]) -> bool {
-    for r in rows {
+fn rows_are_zero(payload: &PayloadRows, rows: &[u32]) -> bool
+    requires { All (λ r. r < length payload.now.rows) rows.now }
+    ensures { IsTrue result
+        ↔ All (λ r. (c : ℕ) → c < payload.now.cols → matrix_entry payload.now r c ≡ 0) rows.now }
+{
+    'rows: for (i, r) in rows.iter().enumerate() {
         if !payload.row_is_zero(*r) {
             return false;
         }
@@ -28,8 +36,12 @@ fn rows_are_zero(payload: &PayloadRows, rows: &[u32]) -> bool {
 }
 
 // Whether row `r` is 0 from byte `first` on, of `t` bytes.
-fn is_zero_from(payload: &PayloadRows, r: u32, first: u32, t: u32) -> bool {
-    for c in first..t {
+fn is_zero_from(payload: &PayloadRows, r: u32, first: u32, t: u32) -> bool
+    requires row { r < length payload.now.rows }
+    requires columns { t ≡ payload.now.cols }
+    ensures { IsTrue result ↔ ((c : ℕ) → first ≤ c → c < t → matrix_entry payload.now r c ≡ 0) }
+{
+    'columns: for c in first..t {
         if payload.byte(r, c) != 0 {
             return false;
         }
@@ -38,7 +50,11 @@ fn is_zero_from(payload: &PayloadRows, r: u32, first: u32, t: u32) -> bool {
 }
 
 // Whether the last symbol's row, if it has one, is 0 from the file's end on.
-fn padding_is_zero(session: &Session, e: &Elimination, payload: &PayloadRows) -> bool {
+fn padding_is_zero(session: &Session, e: &Elimination, payload: &PayloadRows) -> bool
+    requires shape { IsShaped session.now (length payload.now.rows) e.now }
+    requires columns { payload.now.cols ≡ session.now.t }
+    ensures { IsTrue result ↔ PaddingHolds session.now e.now payload.now }
+{
     let t = u64::from(session.t());
     let end = session.length() % t;
     if end == 0 {
@@ -51,17 +67,46 @@ fn padding_is_zero(session: &Session, e: &Elimination, payload: &PayloadRows) ->
     }
 }
 
-// Writes a symbol to its part of the file, where it has a row.
-fn write_symbol(part: &mut [u8], payload: &PayloadRows, place: Place) {
+// Writes a symbol to its part of the file, which is 0, where it has a row.
+fn write_symbol(part: &mut [u8], payload: &PayloadRows, place: Place)
+    requires place { (r : ℕ) → place ≡ Row r → r < length payload.now.rows }
+    requires width { length part.old ≡ payload.now.cols }
+    requires zeros { (c : ℕ) → c < payload.now.cols → slice_index part.old c ≡ 0 }
+    ensures width { length part.new ≡ payload.now.cols }
+    ensures bytes { (c : ℕ) → c < payload.now.cols
+        → slice_index part.new c ≡ byte_at_place payload.now c place }
+{
     if let Place::Row(r) = place {
         payload.copy_row_to(r, part);
     }
 }
 
+// Writes a symbol to the file's part from byte `start` on, which is 0.
+fn write_symbol_at(file: &mut [u8], start: usize, t: usize, payload: &PayloadRows, place: Place)
+    requires place { (r : ℕ) → place ≡ Row r → r < length payload.now.rows }
+    requires width { t ≡ payload.now.cols }
+    requires inside { start + t ≤ length file.old }
+    requires zeros { (c : ℕ) → c < t → slice_index file.old (start + c) ≡ 0 }
+    ensures length { length file.new ≡ length file.old }
+    ensures inside { (c : ℕ) → c < t → slice_index file.new (start + c) ≡ byte_at_place payload.now c place }
+    ensures outside { (i : ℕ) → ((i < start) ⊎ (start + t ≤ i)) → slice_index file.new i ≡ slice_index file.old i }
+{
+    write_symbol(&mut file[start..start + t], payload, place);
+}
+
 // Writes each symbol to its part of a file of zeros.
-fn write_symbols(file: &mut [u8], t: usize, payload: &PayloadRows, places: &[Place]) {
-    for (s, place) in places.iter().enumerate() {
-        write_symbol(&mut file[s * t..s * t + t], payload, *place);
+fn write_symbols(file: &mut [u8], t: usize, payload: &PayloadRows, places: &[Place])
+    requires places { (s r : ℕ) → s < length places.now → slice_index_or places.now s (Row 0) ≡ Row r
+        → r < length payload.now.rows }
+    requires width { t ≡ payload.now.cols }
+    requires length { length file.old ≡ length places.now * t }
+    requires zeros { (i : ℕ) → slice_index file.old i ≡ 0 }
+    ensures length { length file.new ≡ length file.old }
+    ensures bytes { (s c : ℕ) → s < length places.now → c < t
+        → slice_index file.new (s * t + c) ≡ byte_at_place payload.now c (slice_index_or places.now s (Row 0)) }
+{
+    'symbols: for s in 0..places.len() {
+        write_symbol_at(file, s * t, t, payload, places[s]);
     }
 }
 
@@ -71,57 +116,100 @@ fn found_file(
     session: &Session,
     e: &Elimination,
     payload: &PayloadRows,
-) -> Result<Vec<u8>, AllocError> {
+) -> Result<Bytes, AllocError>
+    requires shape { IsShaped session.now (length payload.now.rows) e.now }
+    requires columns { payload.now.cols ≡ session.now.t }
+    ensures { IfOk result (IsFound session.now e.now payload.now) }
+{
     let t = usize::from(session.t());
-    let mut file = vec![in alloc; 0; e.places.len() * t]?;
+    let mut file = vec![in alloc; 0; session.symbols() as usize * t]?;
     write_symbols(&mut file, t, payload, &e.places);
     file.truncate(session.length() as usize);
-    Ok(file)
+    let bytes = Bytes::from(file);
+    let _are_bytes = bytes.as_slice();
+    Ok(bytes)
 }
 
 // The first free symbol, of those whose columns are given, with which row `r` changes.
-fn first_change(matrix: &Matrix, r: u32, free: &[u32]) -> Option<u32> {
-    for (i, column) in free.iter().enumerate() {
+fn first_change(matrix: &Matrix, r: u32, free: &[u32]) -> Option<usize>
+    requires row { r < length matrix.now.rows }
+    requires columns { All (λ c. c < matrix.now.cols) free.now }
+    ensures { MatchOption result
+        ((i : ℕ) → i < length free.now → matrix_entry matrix.now r (slice_index free.now i) ≡ 0)
+        (λ i. (i < length free.now) × (matrix_entry matrix.now r (slice_index free.now i) ≢ 0)) }
+{
+    'search: for (i, column) in free.iter().enumerate() {
         if matrix.get(r, *column).byte() != 0 {
-            return Some(i as u32);
+            return Some(i);
         }
     }
     None
 }
 
 // The free symbol with which a symbol at this place changes, if it does.
-fn opens(e: &Elimination, place: Place) -> Option<u32> {
+fn opens(e: &Elimination, place: Place) -> Option<usize>
+    requires place { IsPlaceWithin (length e.now.matrix.rows) (length e.now.free) place }
+    requires columns { All (λ c. c < e.now.matrix.cols) e.now.free }
+    ensures { MatchOption result
+        ((i : ℕ) → i < length e.now.free → change_at e.now i place ≡ 0)
+        (λ i. (i < length e.now.free) × (change_at e.now i place ≢ 0)) }
+{
     match place {
         Place::Row(r) => first_change(&e.matrix, r, e.free.as_slice()),
-        Place::Free(i) => Some(i),
+        Place::Free(i) => Some(i as usize),
     }
 }
 
 // The first symbol that changes with a free one.
-fn first_open(e: &Elimination) -> Option<Open> {
-    for (s, place) in e.places.iter().enumerate() {
-        if let Some(free) = opens(e, *place) {
-            return Some(Open {
-                symbol: s as u32,
-                free,
-            });
+fn first_open(session: &Session, e: &Elimination) -> Option<Open>
+    requires { IsShaped session.now (length e.now.matrix.rows) e.now }
+    ensures { MatchOption result
+        (NoneIsOpen session.now e.now)
+        (λ opened. OpensFirst session.now e.now opened.symbol opened.free) }
+{
+    'symbols: for s in 0..session.symbols() {
+        if let Some(free) = opens(e, e.places[s as usize]) {
+            return Some(Open { symbol: s, free });
         }
     }
     None
 }
 
 // By how much a symbol at this place changes with free symbol `free`.
-fn change_at(e: &Elimination, free: u32, place: Place) -> u8 {
+fn change_of(e: &Elimination, free: usize, place: Place) -> u8
+    requires place { IsPlaceWithin (length e.now.matrix.rows) (length e.now.free) place }
+    requires columns { All (λ c. c < e.now.matrix.cols) e.now.free }
+    requires free { free < length e.now.free }
+    ensures { result ≡ change_at e.now free place }
+{
     match place {
-        Place::Row(r) => e.matrix.get(r, e.free.as_slice()[free as usize]).byte(),
-        Place::Free(i) => u8::from(i == free),
+        Place::Row(r) => e.matrix.get(r, e.free.as_slice()[free]).byte(),
+        Place::Free(i) => u8::from(i as usize == free),
     }
 }
 
+// Adds `change` to the byte at a place.
+fn add_at(file: &mut [u8], at: usize, change: u8)
+    requires { at < length file.old }
+    ensures { file.new ≡ slice_set file.old at (gf_add (slice_index file.old at) change) }
+{
+    file[at] ^= change;
+}
+
 // Raises free symbol `free` by 1 in column 0 of the file, and each symbol that changes with it.
-fn raise(file: &mut [u8], t: usize, e: &Elimination, free: u32) {
-    for (s, place) in e.places.iter().enumerate() {
-        file[s * t] ^= change_at(e, free, *place);
+fn raise(file: &mut [u8], session: &Session, e: &Elimination, free: usize)
+    requires shape { IsShaped session.now (length e.now.matrix.rows) e.now }
+    requires free { free < length e.now.free }
+    requires length { length file.old ≡ session.now.file_length }
+    ensures length { length file.new ≡ length file.old }
+    ensures front { (s : ℕ) → s < symbols_of session.now → slice_index file.new (s * session.now.t)
+        ≡ gf_add (slice_index file.old (s * session.now.t)) (change_at e.now free (place_of e.now s)) }
+    ensures rest { (s c : ℕ) → 0 < c → c < session.now.t
+        → slice_index file.new (s * session.now.t + c) ≡ slice_index file.old (s * session.now.t + c) }
+{
+    let t = usize::from(session.t());
+    'symbols: for s in 0..session.symbols() as usize {
+        add_at(file, s * t, change_of(e, free, e.places[s]));
     }
 }
 
@@ -131,11 +219,18 @@ fn raised_file(
     session: &Session,
     e: &Elimination,
     file: &[u8],
-    free: u32,
-) -> Result<Bytes, AllocError> {
+    free: usize,
+) -> Result<Bytes, AllocError>
+    requires shape { IsShaped session.now (length e.now.matrix.rows) e.now }
+    requires free { free < length e.now.free }
+    requires file { IsFile session.now file.now }
+    ensures { IfOk result (IsRaised session.now e.now free file.now) }
+{
     let mut copy = Vec::from_slice(alloc, file)?;
-    raise(&mut copy, usize::from(session.t()), e, free);
-    Ok(Bytes::from(copy))
+    raise(&mut copy, session, e, free);
+    let bytes = Bytes::from(copy);
+    let _are_bytes = bytes.as_slice();
+    Ok(bytes)
 }
 
 /// The answer: that no file agrees, where a zero row or the bytes past the file's end aren't 0; the file whose free symbols
@@ -158,13 +253,13 @@ pub(crate) fn answer(
         return Ok(Answer::Inconsistent);
     }
     let first = found_file(alloc, session, e, payload)?;
-    let Some(open) = first_open(e) else {
-        return Ok(Answer::File(Bytes::from(first)));
+    let Some(opened) = first_open(session, e) else {
+        return Ok(Answer::File(first));
     };
-    let second = raised_file(alloc, session, e, &first, open.free)?;
+    let second = raised_file(alloc, session, e, first.as_slice(), opened.free)?;
     Ok(Answer::NeedMore {
-        at_symbol: open.symbol,
-        first: Bytes::from(first),
+        at_symbol: opened.symbol,
+        first,
         second,
     })
 }
