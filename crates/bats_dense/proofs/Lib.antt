@@ -1,4 +1,5 @@
 mod ClearLemmas
+pub mod Completing
 mod EliminationLemmas
 mod ReductionLemmas
 pub mod ResultLemmas

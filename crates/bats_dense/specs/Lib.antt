@@ -1,3 +1,4 @@
+pub mod Completed
 pub mod Kept
 pub mod Reduced
 pub mod steps

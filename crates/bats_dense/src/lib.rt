@@ -3,10 +3,12 @@
 #![tactic(auto)]
 
 mod dense;
+mod laws;
 mod progress;
 mod rows;
 
 pub use dense::{Dense, reduce};
+pub use laws::completed_values_solve;
 
 #[cfg(test)]
 mod tests;
