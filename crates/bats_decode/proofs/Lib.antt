@@ -3,3 +3,4 @@ pub mod KeptPackets
 pub mod AgreeingColumns
 pub mod AnswersRight
 pub mod RaisedFiles
+pub mod PayloadLemmas

@@ -1,10 +1,10 @@
 //! The payload rows: the payloads of the kept packets, on which the plan is run.
-ghost use Rattle.std.specs.Prelude.{◌≡◌, ◌+◌, ◌<◌, ◌↔◌, IfOk, IsTrue, ℕ, All, length};
+ghost use Rattle.std.specs.Prelude.{◌≡◌, ◌+◌, ◌<◌, ◌≤◌, ◌↔◌, ◌++◌, IfOk, IsTrue, ℕ, All, length, take};
 ghost use Rattle.gf_rows.specs.Matrix.{IsMatrix, matrix_row, matrix_entry};
-ghost use Rattle.gf_rows.specs.Operation.{FitsRows};
+ghost use Rattle.gf_rows.specs.Operation.{FitsRows, IsRowOperation, op_on_rows};
 ghost use Rattle.gf_rows.specs.Plan.{plan_on_rows};
 ghost use Rattle.bats_decode.specs.Decoder.{kept_packets};
-ghost use Rattle.bats_decode.specs.steps.Replayed.{payload_grid};
+ghost use Rattle.bats_decode.specs.steps.Replayed.{payload_grid, payloads_of};
 
 use bats_batch::{Basis, Held};
 use bats_model::Session;
@@ -28,14 +28,29 @@ impl Model for PayloadRows {
 }
 
 // Writes the payloads of a batch's kept packets to the rows from `first` on.
-fn write_batch(rows: &mut Matrix, first: u32, basis: &Basis) {
-    for i in 0..basis.rank() {
+fn write_batch(rows: &mut Matrix, first: u32, basis: &Basis)
+    requires room { first + length basis.now.kept ≤ length rows.old.rows }
+    requires width { basis.now.t ≡ rows.old.cols }
+    ensures cols { rows.new.cols ≡ rows.old.cols }
+    ensures count { length rows.new.rows ≡ length rows.old.rows }
+    ensures written { take (first + length basis.now.kept) rows.new.rows
+        ≡ take first rows.old.rows ++ payloads_of basis.now.kept }
+{
+    let _rows = rows.rows();
+    'packets: for i in 0..basis.rank() {
         rows.set_row(first + i, basis.kept(i).payload.as_slice());
     }
 }
 
 // Does one operation on the rows, and counts it.
-fn perform<L: Ledger>(rows: &mut Matrix, op: Op, steps: &mut Steps<L>) {
+fn perform<L: Ledger>(rows: &mut Matrix, op: Op, steps: &mut Steps<L>)
+    requires fits { FitsRows (length rows.old.rows) op }
+    requires rule { IsRowOperation op }
+    ensures rows { rows.new.rows ≡ op_on_rows rows.old.rows op }
+    ensures cols { rows.new.cols ≡ rows.old.cols }
+    ensures matrix { IsMatrix rows.new }
+    ensures counted { steps.new ≡ steps.old + 1 }
+{
     match op {
         Op::AddScaled { dst, src, factor } => rows.axpy(dst, factor, src, steps),
         Op::Scale { row, factor } => rows.scale(row, factor, steps),
@@ -55,11 +70,12 @@ impl PayloadRows {
     {
         let mut rows = Matrix::zeros(alloc, held.rows(), u32::from(session.t()))?;
         let mut first = 0;
-        for i in 0..held.batches() {
+        'batches: for i in 0..held.batches() {
             let basis = held.basis_at(i);
             write_batch(&mut rows, first, basis);
             first += basis.rank();
         }
+        let _rows = rows.rows();
         Ok(PayloadRows { rows })
     }
 
@@ -71,7 +87,8 @@ impl PayloadRows {
         ensures matrix { IsMatrix self.new }
         ensures counted { steps.new ≡ steps.old + length plan.now }
     {
-        for i in 0..plan.len() {
+        let _rows = self.rows.rows();
+        'operations: for i in 0..plan.len() {
             perform(&mut self.rows, plan.get(i), steps);
         }
     }
@@ -81,12 +98,7 @@ impl PayloadRows {
         requires { r < length self.now.rows }
         ensures { IsTrue result ↔ ((c : ℕ) → c < self.now.cols → matrix_entry self.now r c ≡ 0) }
     {
-        for byte in self.rows.row(r) {
-            if *byte != 0 {
-                return false;
-            }
-        }
-        true
+        self.rows.row(r).iter().all(|byte| *byte == 0)
     }
 
     /// Byte `c` of row `r`.
