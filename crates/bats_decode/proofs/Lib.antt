@@ -4,3 +4,6 @@ pub mod AgreeingColumns
 pub mod AnswersRight
 pub mod RaisedFiles
 pub mod PayloadLemmas
+pub mod EliminatedLemmas
+pub mod KeptPackets
+pub mod PlaceLemmas

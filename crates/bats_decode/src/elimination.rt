@@ -1,9 +1,11 @@
 //! The elimination of the kept packets' equations: which row gives which symbol, and which symbols are free.
 ghost use Rattle.std.specs.Prelude.{◌≡◌, ◌≤◌, ◌+◌, ◌*◌, IfOk, length};
+ghost use Rattle.std.specs.List.{range_with_len};
 ghost use Rattle.bats_model.specs.Session.{symbols_of};
 ghost use Rattle.bats_batch.specs.Held.{row_count};
+ghost use Rattle.bats_dense.specs.Reduced.{AreSplit};
 ghost use Rattle.bats_decode.specs.Decoder.{kept_packets};
-ghost use Rattle.bats_decode.specs.steps.Eliminated.{IsEliminated};
+ghost use Rattle.bats_decode.specs.steps.Eliminated.{ArePlaces, IsEliminated};
 
 use crate::equations::equations;
 use bats_batch::Held;
@@ -39,9 +41,11 @@ pub(crate) struct Elimination {
 }
 
 // The numbers from 0 on, this many.
-fn numbers_below(alloc: Global, count: u32) -> Result<Nums, AllocError> {
+fn numbers_below(alloc: Global, count: u32) -> Result<Nums, AllocError>
+    ensures { IfOk result (λ numbers. numbers ≡ range_with_len 0 count) }
+{
     let mut numbers = Nums::new(alloc);
-    for i in 0..count {
+    'numbers: for i in 0..count {
         numbers.push(i)?;
     }
     Ok(numbers)
@@ -54,12 +58,16 @@ fn places_of(
     pivot_rows: &[u32],
     pivot_columns: &[u32],
     free: &[u32],
-) -> Result<Vec<Place>, AllocError> {
+) -> Result<Vec<Place>, AllocError>
+    requires sizes { length pivot_rows.now ≡ length pivot_columns.now }
+    requires split { AreSplit symbols pivot_columns.now free.now }
+    ensures { IfOk result (λ places. ArePlaces symbols pivot_rows.now pivot_columns.now free.now places.items) }
+{
     let mut places = vec![in alloc; Place::Row(0); symbols as usize]?;
-    for (i, column) in pivot_columns.iter().enumerate() {
+    'pivots: for (i, column) in pivot_columns.iter().enumerate() {
         places[*column as usize] = Place::Row(pivot_rows[i]);
     }
-    for (i, column) in free.iter().enumerate() {
+    'columns: for (i, column) in free.iter().enumerate() {
         places[*column as usize] = Place::Free(i as u32);
     }
     Ok(places)

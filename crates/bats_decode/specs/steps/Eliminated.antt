@@ -2,7 +2,7 @@
 use Rattle.std.specs.Prelude.{ℕ, suc, ◌≡◌, ◌<◌, List, All, length, slice_index, slice_index_or}
 use Rattle.gf_core.specs.Bytes.{AreBytes}
 use Rattle.gf_core.specs.Field.{gf_add, gf_mul, gf_sum}
-use Rattle.gf_rows.specs.Matrix.{Grid, IsMatrix, matrix_entry}
+use Rattle.gf_rows.specs.Matrix.{IsMatrix, matrix_entry}
 use Rattle.gf_rows.specs.Equations.{AreValues}
 use Rattle.gf_rows.specs.Operation.{FitsRows}
 use Rattle.gf_rows.specs.Plan.{IsPlan, plan_on_column}
@@ -16,6 +16,16 @@ use Rattle.bats_decode.specs.declared.elimination.Elimination.{Elimination}
 -- the place of symbol s
 abbrev pub place_of : Elimination → ℕ → Place
 place_of e s = slice_index_or e.places.items s (Row 0)
+
+-- each of the first n of these columns has the place that its number gives
+abbrev pub HavePlaces : ℕ → (ℕ → Place) → List ℕ → List Place → Type 0
+HavePlaces n place columns places = (i : ℕ) → i < n → slice_index_or places (slice_index columns i) (Row 0) ≡ place i
+
+-- at each pivot column its row, and at each free column its number among these
+pub record ArePlaces (symbols : ℕ) (pivot_rows pivot_columns free : List ℕ) (places : List Place) : Type 0 where
+  pub count : length places ≡ symbols
+  pub pivots : HavePlaces (length pivot_columns) (λ i. Row (slice_index pivot_rows i)) pivot_columns places
+  pub columns : HavePlaces (length free) Free free places
 
 -- the place is one of these rows, or one of the free symbols
 abbrev pub IsPlaceWithin : ℕ → ℕ → Place → Type 0
