@@ -5,5 +5,4 @@ pub mod AnswersRight
 pub mod RaisedFiles
 pub mod PayloadLemmas
 pub mod EliminatedLemmas
-pub mod KeptPackets
 pub mod PlaceLemmas
