@@ -6,3 +6,4 @@ pub mod RaisedFiles
 pub mod PayloadLemmas
 pub mod EliminatedLemmas
 pub mod PlaceLemmas
+pub mod Offering

@@ -1,3 +1,4 @@
+pub mod Received
 pub mod Equations
 pub mod Eliminated
 pub mod Replayed

@@ -41,12 +41,13 @@ pub struct Decoder {
 impl Model for Decoder {
     ghost use Rattle.std.specs.Prelude.{◌≡◌};
     ghost use Rattle.bats_decode.specs.Decoder.{DecoderData};
+    ghost use Rattle.bats_decode.specs.steps.Received.{HasReceived};
 
     ghost Value = { DecoderData };
 
     ghost view = { λ d. record { held = d.held; contradicted = d.contradicted; packets = d.packets } };
 
-    ghost invariant = { λ d. d.held.session ≡ d.session };
+    ghost invariant = { λ d. (d.held.session ≡ d.session) × HasReceived d.held };
 }
 
 ghost use Rattle.bats_model.specs.Session.{symbols_of};
