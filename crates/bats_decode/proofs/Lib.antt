@@ -7,3 +7,4 @@ pub mod PayloadLemmas
 pub mod EliminatedLemmas
 pub mod PlaceLemmas
 pub mod Offering
+pub mod Solving

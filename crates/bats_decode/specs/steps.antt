@@ -3,3 +3,4 @@ pub mod Equations
 pub mod Eliminated
 pub mod Replayed
 pub mod Answered
+pub mod SymbolRows

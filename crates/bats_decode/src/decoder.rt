@@ -61,20 +61,26 @@ ghost use Rattle.bats_batch.specs.declared.held.HeldEnd.TheVariants.{Full};
 ghost use Rattle.gf_rows.specs.Operation.{FitsRows};
 ghost use Rattle.bats_decode.specs.Decoder.{StandsFor, kept_packets};
 ghost use Rattle.bats_decode.specs.SolvingPlan.{PlanFollows};
+ghost use Rattle.bats_decode.specs.steps.SymbolRows.{symbol_rows, rows_with};
 
 // The rows of the symbols that have one.
-fn rows_of(alloc: Global, places: &[Place]) -> Result<Nums, AllocError> {
+fn rows_of(alloc: Global, places: &[Place]) -> Result<Nums, AllocError>
+    ensures { IfOk result (λ rows. rows ≡ symbol_rows places.now) }
+{
     let mut rows = Nums::new(alloc);
-    for place in places {
-        if let Place::Row(r) = place {
-            rows.push(*r)?;
+    'places: for place in places {
+        match place {
+            Place::Row(r) => rows.push(*r)?,
+            Place::Free(_) => {}
         }
     }
     Ok(rows)
 }
 
 // The rows of the symbols, where the answer is a file.
-fn rows_for(alloc: Global, answer: &Answer, places: &[Place]) -> Result<Nums, AllocError> {
+fn rows_for(alloc: Global, answer: &Answer, places: &[Place]) -> Result<Nums, AllocError>
+    ensures { IfOk result (λ rows. rows ≡ rows_with places.now answer.now) }
+{
     match answer {
         Answer::File(_) => rows_of(alloc, places),
         _ => Ok(Nums::new(alloc)),
