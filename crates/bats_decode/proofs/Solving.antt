@@ -1,12 +1,13 @@
 -- From the kept packets to all received ones: the right answer, and the rows of the symbols.
 use Rattle.std.proofs.Common.{ℕ, zero, suc, ◌≡◌, ◌<◌, ◌+◌, ◌∙◌, ◌↔◌, cond, sym, ap, subst, refl, Bool, true, false, List, All, [], ◌∷◌, ◌++◌, length, get_or, take, arith, eq-eqb, append-nil}
 use Rattle.std.proofs.lemmas.Bool.{false≢true}
-use Rattle.std.proofs.lemmas.List.{take_more, take_at, drop_at}
+use Rattle.std.proofs.lemmas.List.{take_more, take_at, drop_at, length-map}
 use Rattle.std.proofs.lemmas.List.Elements.{All-nil, All-cons, All-head, All-tail, All-append, All-take, All-drop, All-from_get_or, All-weaker}
 use Rattle.std.proofs.lemmas.Grind.{flat_map-append}
 use Rattle.gf_rows.specs.Matrix.{Grid, IsMatrix}
 use Rattle.gf_rows.specs.declared.operation.Op.{Op}
 use Rattle.gf_rows.specs.Plan.{plan_on_rows}
+use Rattle.gf_rows.proofs.PlanLemmas.{length-plan_on_rows}
 use Rattle.bats_model.specs.Session.{SessionData, symbols_of}
 use Rattle.bats_model.specs.Agreement.{Agrees, AgreesWithAll}
 use Rattle.bats_model.specs.RightAnswer.{IsRightAnswer, NoFileAgrees}
@@ -119,6 +120,12 @@ replayed-payloads t packets plan before after is matrix cols rows = record {
   cols = cols ∙ ap (λ (m : Grid). m.cols) is;
   rows = rows ∙ ap (λ (m : Grid). plan_on_rows plan m.rows) is;
 }
+
+pub length-replayed : (t : ℕ) (packets : List Packet) (plan : List Op) (before after : Grid) → before ≡ payload_grid t packets
+    → after.rows ≡ plan_on_rows plan before.rows → length after.rows ≡ length packets
+length-replayed t packets plan before after is rows =
+    ap (λ (rs : List (List ℕ)). length rs) rows ∙ length-plan_on_rows plan before.rows ∙ ap (λ (m : Grid). length m.rows) is
+    ∙ length-map packets (λ (packet : Packet). packet.payload)
 
 -- ---- the rows of the symbols
 

@@ -175,6 +175,7 @@ impl Decoder {
                 rows: Nums::new(alloc),
             });
         }
+        let _within = session.t();
         let e = eliminate(alloc, &session, &self.held, coef_steps)?;
         let mut payload = PayloadRows::of_kept(alloc, &session, self.held)?;
         payload.replay(&e.plan, steps);

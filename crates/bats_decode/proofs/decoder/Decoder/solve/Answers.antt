@@ -1,0 +1,72 @@
+use Rattle.std.proofs.Common.{ℕ, ◌≡◌, ◌∙◌, ap, sym, subst, List, All, length}
+use Rattle.gf_rows.specs.Operation.{FitsRows}
+use Rattle.bats_model.specs.Session.{SessionData}
+use Rattle.bats_model.specs.PacketFile.{HasShape}
+use Rattle.bats_model.specs.RightAnswer.{IsRightAnswer}
+use Rattle.bats_model.specs.declared.packet.Packet.{Packet}
+use Rattle.bats_batch.specs.Held.{row_count}
+use Rattle.bats_decode.specs.Decoder.{DecoderData, StandsFor, kept_packets}
+use Rattle.bats_decode.specs.SolvingPlan.{PlanFollows}
+use Rattle.bats_decode.specs.declared.elimination.Place.{Place}
+use Rattle.bats_decode.specs.steps.Eliminated.{IsShaped}
+use Rattle.bats_decode.specs.steps.Replayed.{IsReplayed}
+use Rattle.bats_decode.specs.steps.SymbolRows.{rows_with}
+use Rattle.bats_decode.proofs.AnswersRight.{answers-right}
+use Rattle.bats_decode.proofs.PayloadLemmas.{length-kept_packets}
+use Rattle.bats_decode.proofs.Solving.{shapes-kept, right-contradicted, right-of_kept, replayed-payloads, length-replayed, plan-follows}
+use Rattle.bats_decode.proofs.decoder.Decoder.solve.Goals as goal
+
+pub returns-then-self-clause-right : goal.returns-then-self-clause-right
+returns-then-self-clause-right g c packets h =
+    right-contradicted packets c.args.self (ap (λ (d : DecoderData). d.contradicted) (sym c.self.view_is) ∙ c.if-self.true) h
+
+pub answer-requires-clause-shape : goal.answer-requires-clause-shape
+answer-requires-clause-shape g c =
+    let kept : List Packet = kept_packets c.self.inside.held.batches in
+    let size : length c.replay.new.self.rows ≡ length kept =
+    length-replayed c.self.inside.session.t kept c.in_ok-e.e.plan c.in_ok-payload.payload c.replay.new.self c.in_ok-payload.ensures.rows
+    c.replay.ensures.rows in
+    subst (λ (n : ℕ). IsShaped c.self.inside.session n c.in_ok-e.e) (sym size) c.in_ok-e.ensures.eliminated.shape
+
+pub returns-clause-right : goal.returns-clause-right
+returns-clause-right g c packets h =
+    let inside = c.self.inside in
+    let old : DecoderData = record { held = inside.held; contradicted = inside.contradicted; packets = inside.packets } in
+    let stands : StandsFor packets old = subst (StandsFor packets) (sym c.self.view_is) h in
+    let kept : List Packet = kept_packets inside.held.batches in
+    let answer = c.in_ok-answer.answer in
+    let shapes : All (HasShape inside.session) kept =
+    subst (λ (s : SessionData). All (HasShape s) kept) c.self.invariant.0 (shapes-kept packets inside.held stands.holds) in
+    let replayed : IsReplayed inside.session.t kept c.in_ok-e.e.plan c.replay.new.self =
+    replayed-payloads inside.session.t kept c.in_ok-e.e.plan c.in_ok-payload.payload c.replay.new.self c.in_ok-payload.ensures.rows
+    c.replay.ensures.matrix c.replay.ensures.cols c.replay.ensures.rows in
+    let right : IsRightAnswer inside.session kept answer =
+    answers-right inside.session kept c.in_ok-e.e c.replay.new.self answer c.t-within.ensures.within shapes c.in_ok-e.ensures.eliminated replayed
+    c.in_ok-answer.ensures in
+    subst (λ (d : DecoderData). IsRightAnswer d.held.session packets answer) c.self.view_is
+    (right-of_kept packets old answer c.if-self.false stands
+    (subst (λ (s : SessionData). IsRightAnswer s kept answer) (sym c.self.invariant.0) right))
+
+pub returns-clause-kept : goal.returns-clause-kept
+returns-clause-kept g c packets h =
+    let stands = subst (StandsFor packets) (sym c.self.view_is) h in
+    c.rows-kept.ensures.kept packets stands.holds
+
+pub returns-clause-fits : goal.returns-clause-fits
+returns-clause-fits g c =
+    let plan = c.in_ok-e.e.plan in
+    subst (λ (d : DecoderData). All (FitsRows (row_count d.held.batches)) plan) c.self.view_is
+    (subst (λ (n : ℕ). All (FitsRows n) plan) (length-kept_packets c.self.inside.held.batches) c.in_ok-e.ensures.eliminated.shape.fits)
+
+pub returns-clause-plan : goal.returns-clause-plan
+returns-clause-plan g c packets h =
+    let inside = c.self.inside in
+    let e = c.in_ok-e.e in
+    let answer = c.in_ok-answer.answer in
+    let rows : c.in_ok-rows.rows ≡ rows_with e.places.items answer =
+    c.in_ok-rows.ensures ∙ ap (λ (places : List Place). rows_with places answer) c.deref.ensures.value in
+    let follows : PlanFollows inside.session (kept_packets inside.held.batches) e.plan c.in_ok-rows.rows answer =
+    plan-follows inside.session (kept_packets inside.held.batches) e c.replay.new.self answer c.in_ok-rows.rows c.in_ok-e.ensures.eliminated
+    c.in_ok-answer.ensures rows in
+    subst (λ (d : DecoderData). PlanFollows d.held.session (kept_packets d.held.batches) e.plan c.in_ok-rows.rows answer) c.self.view_is
+    (subst (λ (s : SessionData). PlanFollows s (kept_packets inside.held.batches) e.plan c.in_ok-rows.rows answer) (sym c.self.invariant.0) follows)
