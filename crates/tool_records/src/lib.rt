@@ -2,10 +2,12 @@
 //! records. It knows no command.
 #![tactic(auto)]
 
+mod counters;
 mod records;
 mod refusals;
 mod walking;
 
+pub use counters::Counters;
 pub use records::{write_header, write_packet};
 pub use refusals::refused;
 pub use walking::{Taken, Taker, WalkEnd, walk};

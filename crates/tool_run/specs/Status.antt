@@ -13,4 +13,3 @@ code_of statuses.Limit = 5
 code_of statuses.ReadFault = 6
 code_of statuses.WriteFault = 7
 code_of statuses.Memory = 8
-code_of statuses.NotBuilt = 10

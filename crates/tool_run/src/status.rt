@@ -22,8 +22,6 @@ pub enum Status {
     WriteFault = 7,
     /// Memory ran out.
     Memory = 8,
-    /// The input has a packet that the command can't take yet.
-    NotBuilt = 10,
 }
 
 impl Status {

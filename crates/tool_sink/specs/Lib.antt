@@ -1,2 +1,4 @@
+pub mod Answers
 pub mod Sink
+pub mod Check
 pub mod steps

@@ -1,30 +1,19 @@
 -- What `relay` sends, how it ends on an input, and what it promises.
-use Rattle.std.specs.Prelude.{ℕ, ◌≡◌, ◌≤◌, ◌<◌, ◌⊎◌, ◌↔◌, Bool, List, [], ◌∷◌, ◌++◌, length, flat_map, codes, Option, Some, None, if◌then◌else◌}
-use Rattle.std.specs.List.{Contains}
-use Rattle.std.specs.List.Sorted.{IsStrictlyIncreasing}
+use Rattle.std.specs.Prelude.{ℕ, ◌≡◌, ◌⊎◌, Bool, List, ◌++◌, length, flat_map, codes, Some, if◌then◌else◌}
 use Rattle.std.specs.Fmt.{decimal}
 use Rattle.bats_model.specs.Session.{SessionData}
 use Rattle.bats_model.specs.Kept.{kept_of, kept_count}
 use Rattle.bats_model.specs.PacketFile.{IsPacketFile, packets_of}
 use Rattle.bats_model.specs.Records.{header_record, packet_record}
-use Rattle.bats_model.specs.Refusal.{HasFront}
 use Rattle.bats_model.specs.Relay.{relay_outputs}
 use Rattle.bats_model.specs.declared.packet.Packet.{Packet}
 use Rattle.bats_model.specs.declared.item.Item.{Item}
-use Rattle.bats_model.specs.declared.item.Item.TheVariants as items
-use Rattle.bats_model.specs.declared.read_end.ReadEnd.{ReadEnd}
-use Rattle.bats_batch.specs.Held.{max_kept}
 use Rattle.bats_relay.specs.Rule.{fixed_count, extra_count}
 use Rattle.tool_run.specs.declared.status.Status.TheVariants as statuses
-use Rattle.tool_run.specs.Ending.{Ending, refusal, in_part, to_end}
+use Rattle.tool_run.specs.Ending.{Ending, to_end}
 use Rattle.tool_run.specs.Promise.{Promise, IsBegun}
-use Rattle.tool_records.specs.Reading.{IsReading, refused_ending}
+use Rattle.tool_records.specs.Keeping.{AreFew, AreHeld, StopsKeeping, takes_few}
 use Rattle.tool_records.specs.ReadsRecords.{ReadsRecords}
-
--- the numbers are those of the batches that have a kept packet, rising
-pub record AreHeld (packets : List Packet) (numbers : List ℕ) : Type 0 where
-  pub rising : IsStrictlyIncreasing numbers
-  pub held : (number : ℕ) → Contains numbers number ↔ 0 < length (kept_of number packets)
 
 -- outputs of a batch, at most: as many as its coefficients, 32 at most, and 64 more
 abbrev pub most_outputs : ℕ
@@ -68,11 +57,6 @@ relayed_ending session seed rule packets numbers = record {
   reach = to_end;
 }
 
--- no more of the packets among the items are kept than may be
-abbrev pub AreFew : Option SessionData → List Item → Type 0
-AreFew None list = Unit {0}
-AreFew (Some session) list = kept_count (packets_of list) ≤ max_kept
-
 -- the whole input is a packet file, and no more of its packets are kept than may be: the ending is that of what is sent
 pub record RelaySends (seed : List ℕ) (extra : Bool) (count : ℕ) (input : List ℕ) (ending : Ending) : Type 0 where
   pub session : SessionData
@@ -83,40 +67,10 @@ pub record RelaySends (seed : List ℕ) (extra : Bool) (count : ℕ) (input : Li
   pub held : AreHeld (packets_of list) numbers
   pub ending_is : ending ≡ relayed_ending session seed (output_count session extra count) (packets_of list) numbers
 
--- the input is refused, and no more of the packets before are kept than may be
-pub record RelayRefuses (input : List ℕ) (ending : Ending) : Type 0 where
-  pub session : Option SessionData
-  pub list : List Item
-  pub end : ReadEnd
-  pub reading : IsReading input session list (Some end)
-  pub few : AreFew session list
-  pub ending_is : ending ≡ refused_ending [] end
-
--- the ending on an input of whose packets more are new than may be kept
-abbrev pub kept_limit_ending : Ending
-kept_limit_ending = refusal statuses.Limit (codes "bats: limit kept\n") in_part
-
--- a packet comes that would be kept when no more may be, in a whole record
-pub record RelayIsFull (input : List ℕ) (ending : Ending) : Type 0 where
-  pub session : SessionData
-  pub list : List Item
-  pub at : ℕ
-  pub packet : Packet
-  pub front : List ℕ
-  pub rest : List ℕ
-  pub is_front : HasFront input session (list ++ items.Packet at packet ∷ []) front rest
-  pub few : AreFew (Some session) list
-  pub full : ¬ AreFew (Some session) (list ++ items.Packet at packet ∷ [])
-  pub ending_is : ending ≡ kept_limit_ending
-
 -- how `relay` ends where memory is found and no read, write or flush fails
 abbrev pub IsRelayEnding : List ℕ → Bool → ℕ → List ℕ → Ending → Type 0
 IsRelayEnding seed extra count input ending =
-    RelaySends seed extra count input ending ⊎ (RelayRefuses input ending ⊎ RelayIsFull input ending)
-
--- a relay reads on while no more packets are kept than may be
-abbrev pub takes_few : SessionData → List Item → Type 0
-takes_few session list = AreFew (Some session) list
+    RelaySends seed extra count input ending ⊎ StopsKeeping input ending
 
 -- what `relay` promises: it reads a packet file record by record, no further than the first packet that would be kept
 -- when no more may be, and then writes

@@ -1,0 +1,61 @@
+-- How a command ends that keeps the new packets of a packet file, where it doesn't take the whole input: as long as no more
+-- are kept than may be it reads on.
+use Rattle.std.specs.Prelude.{ℕ, ◌≡◌, ◌≤◌, ◌<◌, ◌⊎◌, ◌↔◌, List, [], ◌∷◌, ◌++◌, length, codes, Option, Some, None}
+use Rattle.std.specs.List.{Contains}
+use Rattle.std.specs.List.Sorted.{IsStrictlyIncreasing}
+use Rattle.bats_model.specs.Session.{SessionData}
+use Rattle.bats_model.specs.Kept.{kept_of, kept_count}
+use Rattle.bats_model.specs.PacketFile.{packets_of}
+use Rattle.bats_model.specs.Refusal.{HasFront}
+use Rattle.bats_model.specs.declared.packet.Packet.{Packet}
+use Rattle.bats_model.specs.declared.item.Item.{Item}
+use Rattle.bats_model.specs.declared.item.Item.TheVariants as items
+use Rattle.bats_model.specs.declared.read_end.ReadEnd.{ReadEnd}
+use Rattle.bats_batch.specs.Held.{max_kept}
+use Rattle.tool_run.specs.declared.status.Status.TheVariants as statuses
+use Rattle.tool_run.specs.Ending.{Ending, refusal, in_part}
+use Rattle.tool_records.specs.Reading.{IsReading, refused_ending}
+
+-- the numbers are those of the batches that have a kept packet, rising
+pub record AreHeld (packets : List Packet) (numbers : List ℕ) : Type 0 where
+  pub rising : IsStrictlyIncreasing numbers
+  pub held : (number : ℕ) → Contains numbers number ↔ 0 < length (kept_of number packets)
+
+-- no more of the packets among the items are kept than may be
+abbrev pub AreFew : Option SessionData → List Item → Type 0
+AreFew None list = Unit {0}
+AreFew (Some session) list = kept_count (packets_of list) ≤ max_kept
+
+-- the input is refused, and no more of the packets before are kept than may be
+pub record RefusesAfterFew (input : List ℕ) (ending : Ending) : Type 0 where
+  pub session : Option SessionData
+  pub list : List Item
+  pub end : ReadEnd
+  pub reading : IsReading input session list (Some end)
+  pub few : AreFew session list
+  pub ending_is : ending ≡ refused_ending [] end
+
+-- the ending on an input of whose packets more are new than may be kept
+abbrev pub kept_limit_ending : Ending
+kept_limit_ending = refusal statuses.Limit (codes "bats: limit kept\n") in_part
+
+-- a packet comes that would be kept when no more may be, in a whole record
+pub record PassesLimit (input : List ℕ) (ending : Ending) : Type 0 where
+  pub session : SessionData
+  pub list : List Item
+  pub at : ℕ
+  pub packet : Packet
+  pub front : List ℕ
+  pub rest : List ℕ
+  pub is_front : HasFront input session (list ++ items.Packet at packet ∷ []) front rest
+  pub few : AreFew (Some session) list
+  pub full : ¬ AreFew (Some session) (list ++ items.Packet at packet ∷ [])
+  pub ending_is : ending ≡ kept_limit_ending
+
+-- the ending on an input that isn't taken whole
+abbrev pub StopsKeeping : List ℕ → Ending → Type 0
+StopsKeeping input ending = RefusesAfterFew input ending ⊎ PassesLimit input ending
+
+-- the command reads on while no more packets are kept than may be
+abbrev pub takes_few : SessionData → List Item → Type 0
+takes_few session list = AreFew (Some session) list
