@@ -3,3 +3,8 @@ pub mod ReaderAnswers
 pub mod WalkSteps
 pub mod WalksRead
 pub mod WalkLemmas
+pub mod RefusedReadings
+pub mod KeptItems
+pub mod KeptWalks
+pub mod KeptEndings
+pub mod HeldNumbers
