@@ -17,7 +17,8 @@ numbers_of batches = map (λ batch. batch.number) batches
 
 -- ---- which numbers these are
 
-number_at : (batches : List HeldBatch) (place default : ℕ) → place < length batches
+-- the number at a place
+pub number_at : (batches : List HeldBatch) (place default : ℕ) → place < length batches
     → slice_index_or (numbers_of batches) place default ≡ (batch_at batches place).number
 number_at batches place default within = get_or-map (λ (batch : HeldBatch). batch.number) batches place no_batch default within
 
@@ -43,7 +44,7 @@ contains_kept (batch ∷ batches) number some = elim (cases_Bool (batch.number =
 ]
 
 -- what is kept of the batch at a place
-kept_there : (batches : List HeldBatch) (place : ℕ) → HaveRisingNumbers batches → place < length batches
+pub kept_there : (batches : List HeldBatch) (place : ℕ) → HaveRisingNumbers batches → place < length batches
     → kept_at batches (batch_at batches place).number ≡ (batch_at batches place).kept
 kept_there batches place rising within =
     kept_at-stands batches rising (batch_at batches place).number place (record { within = within; same = refl })

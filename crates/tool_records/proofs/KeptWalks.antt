@@ -103,6 +103,41 @@ record HasEnding (ends : List ℕ → Ending → Type 0) (start now : Ends) (end
   no_fault : now.input.faults ≡ start.input.faults
   nothing : now.output ≡ start.output
 
+-- ---- what the input is
+
+-- it is refused, after few packets were kept
+pub RefusesAfterFew-walked : (start now : Ends) (end : ReadEnd) → (w : WalksToRefusal KeepsFew start now end) → RefusesAfterFew w.input (refused_ending [] end)
+RefusesAfterFew-walked start now end w = record {
+  session = w.session;
+  list = w.list;
+  end = end;
+  reading = w.reading;
+  few = few_so_far w.session w.list start.output now.output w.given;
+  ending_is = refl;
+}
+
+-- or a packet too many came
+pub PassesLimit-walked : (start now : Ends) (w : WalksToItem KeepsFew start now (Ok takes.Halts)) (rest : List ℕ)
+    → PassesLimit ((w.reads.front ++ record_of w.session w.item) ++ rest) kept_limit_ending
+PassesLimit-walked start now w rest =
+    let meets = MeetsFull-ends w.session w.list w.item w.given.as_far in
+    let front : List ℕ = w.reads.front ++ record_of w.session w.item in
+    record {
+      session = w.session;
+      list = w.list;
+      at = meets.at;
+      packet = meets.packet;
+      front = front;
+      rest = rest;
+      is_front = record {
+        file = subst (λ (i : Item). IsPacketFile w.session (w.list ++ i ∷ []) front) meets.item_is w.reads.file;
+        split = refl;
+      };
+      few = meets.few;
+      full = subst (λ (i : Item). ¬ AreFew (Some w.session) (w.list ++ i ∷ [])) meets.item_is meets.full;
+      ending_is = refl;
+    }
+
 module _ (ends : List ℕ → Ending → Type 0) (start now : Ends) where
   -- memory ran out before anything was written
   lacks_memory : (input : List ℕ) → IsTold start.input.left input → ReadsRecords takes_few start.input.left now.input.left
@@ -143,17 +178,7 @@ module _ (ends : List ℕ → Ending → Type 0) (start now : Ends) where
 
   -- ---- the input isn't taken whole
 
-  -- it is refused, after few packets were kept
-  pub RefusesAfterFew-walked : (end : ReadEnd) → (w : WalksToRefusal KeepsFew start now end) → RefusesAfterFew w.input (refused_ending [] end)
-  RefusesAfterFew-walked end w = record {
-    session = w.session;
-    list = w.list;
-    end = end;
-    reading = w.reading;
-    few = few_so_far w.session w.list start.output now.output w.given;
-    ending_is = refl;
-  }
-
+  -- it is refused
   pub Attempts-refused : ((input : List ℕ) (ending : Ending) → StopsKeeping input ending → ends input ending) → (end : ReadEnd)
       (result : Result Finish Stop) → Walks KeepsFew start now (Ok (walks.Refused end)) → FinishesBy (refused_ending [] end) result
       → Attempts (keeping_promise ends) start now result
@@ -162,7 +187,7 @@ module _ (ends : List ℕ → Ending → Type 0) (start now : Ends) where
       ends_by (refused_ending [] end) result (record {
         input = w.input;
         told = w.told;
-        is_ending = stopping w.input (refused_ending [] end) (inl (RefusesAfterFew-walked end w));
+        is_ending = stopping w.input (refused_ending [] end) (inl (RefusesAfterFew-walked start now end w));
         of_ending = w.of_input;
         no_output = refl;
         reach = tt;
@@ -173,27 +198,6 @@ module _ (ends : List ℕ → Ending → Type 0) (start now : Ends) where
       }) finishes
 
   -- a packet too many came
-  pub PassesLimit-walked : (w : WalksToItem KeepsFew start now (Ok takes.Halts)) (rest : List ℕ)
-      → PassesLimit ((w.reads.front ++ record_of w.session w.item) ++ rest) kept_limit_ending
-  PassesLimit-walked w rest =
-      let meets = MeetsFull-ends w.session w.list w.item w.given.as_far in
-      let front : List ℕ = w.reads.front ++ record_of w.session w.item in
-      record {
-        session = w.session;
-        list = w.list;
-        at = meets.at;
-        packet = meets.packet;
-        front = front;
-        rest = rest;
-        is_front = record {
-          file = subst (λ (i : Item). IsPacketFile w.session (w.list ++ i ∷ []) front) meets.item_is w.reads.file;
-          split = refl;
-        };
-        few = meets.few;
-        full = subst (λ (i : Item). ¬ AreFew (Some w.session) (w.list ++ i ∷ [])) meets.item_is meets.full;
-        ending_is = refl;
-      }
-
   pub Attempts-full : ((input : List ℕ) (ending : Ending) → StopsKeeping input ending → ends input ending)
       → (result : Result Finish Stop) → Walks KeepsFew start now (Ok walks.Halted) → FinishesBy kept_limit_ending result
       → Attempts (keeping_promise ends) start now result
@@ -205,7 +209,7 @@ module _ (ends : List ℕ → Ending → Type 0) (start now : Ends) where
       ends_by kept_limit_ending result (record {
         input = input;
         told = told.1;
-        is_ending = stopping input kept_limit_ending (inr (PassesLimit-walked w told.0));
+        is_ending = stopping input kept_limit_ending (inr (PassesLimit-walked start now w told.0));
         of_ending = tt;
         no_output = refl;
         reach = tt;
