@@ -1,55 +1,37 @@
 -- What a relay's keeper has kept of the items of a packet file.
-use Rattle.std.proofs.Common.{ℕ, ◌≡◌, ◌≤◌, ◌+◌, true, cond, List, [], ◌∷◌, ◌++◌, length, Option, None, Some, Result, Ok, Err, refl, sym, ap, ◌∙◌, subst, arith, append-nil}
+use Rattle.std.proofs.Common.{ℕ, ◌≡◌, ◌≤◌, ◌+◌, List, [], ◌∷◌, ◌++◌, length, Option, None, Some, Result, Ok, Err, refl, sym, ap, ◌∙◌, subst, arith, append-nil}
 use Rattle.std.proofs.lemmas.List.{length-append}
-use Rattle.std.proofs.lemmas.List.Elements.{All-weaker}
 use Rattle.bats_io.specs.Streams.{OutputState}
 use Rattle.bats_format.proofs.JoinedFiles.{packets_of-append}
 use Rattle.bats_model.specs.Session.{SessionData}
-use Rattle.bats_model.specs.PacketFile.{HasShape, IsItemAt, IsPacketFile, most_records, packets_of}
-use Rattle.bats_model.specs.Kept.{IsCombination, coefs_of, is_new, new_after, kept_count}
+use Rattle.bats_model.specs.PacketFile.{HasShape, IsPacketFile, most_records, packets_of}
+use Rattle.bats_model.specs.Kept.{new_after, kept_count}
 use Rattle.bats_model.specs.declared.packet.Packet.{Packet}
 use Rattle.bats_model.specs.declared.item.Item.{Item}
 use Rattle.bats_model.specs.declared.item.Item.TheVariants as items
 use Rattle.bats_model.specs.declared.taken.Taken.TheVariants.{Kept}
-use Rattle.bats_model.proofs.KeptSpans.{HasVector, is_new-kept}
-use Rattle.bats_model.proofs.NewPackets.{kept_count-push}
 use Rattle.bats_batch.specs.Basis.{IsTaken}
 use Rattle.bats_batch.specs.Held.{HeldData, StandsFor, kept_at, row_count, max_kept}
-use Rattle.bats_batch.proofs.Offers.{row_count-stands}
 use Rattle.bats_relay.specs.Mixer.{sent_of}
 use Rattle.tool_run.specs.declared.stop.Stop.{Stop}
 use Rattle.tool_records.specs.declared.walking.Taken.{Taken}
 use Rattle.tool_records.specs.declared.walking.Taken.TheVariants as takes
 use Rattle.tool_stream.specs.declared.keeping.Intake.{Intake}
-use Rattle.tool_stream.specs.steps.Keeping.{HasShapeOf, Keeps, KeepsAs, StandsForAll, StandsForItems, TakesIn, TakesItem, IsOneTooMany}
+use Rattle.tool_records.proofs.KeptItems.{is_too_many, packets_of-more, packets_of-room}
+use Rattle.tool_stream.specs.steps.Keeping.{Keeps, KeepsAs, StandsForAll, StandsForItems, TakesIn, TakesItem, IsOneTooMany}
 
 -- ---- one packet
-
-HasVector-shape : (session : SessionData) (packet : Packet) → HasShape session packet → HasVector session.m packet
-HasVector-shape session packet shape = record { size = shape.coefs; bytes = shape.coef_bytes }
 
 -- a new packet when no more may be kept would be one too many
 pub one_too_many : (at : ℕ) (packet : Packet) (before : Intake) → HasShape before.mixer.held.session packet
     → row_count before.mixer.held.batches ≡ max_kept → IsTaken (kept_at before.mixer.held.batches packet.batch) packet Kept
     → IsOneTooMany (items.Packet at packet) before
-one_too_many at packet before shape full is =
-    let held : HeldData = before.mixer.held in
-    record {
-      at = at;
-      packet = packet;
-      item_is = refl;
-      full = λ list stands few.
-          let counted : kept_count list ≡ max_kept = sym (row_count-stands list held stands) ∙ full in
-          let apart : ¬ IsCombination (coefs_of (kept_at held.batches packet.batch)) packet.coefs = is in
-          let new : is_new list packet ≡ true =
-          (is_new-kept held.session.m list packet
-          (All-weaker (HasShape held.session) (HasVector held.session.m) (HasVector-shape held.session) list stands.shapes)
-          (HasVector-shape held.session packet shape)).1
-          (subst (λ (ps : List Packet). ¬ IsCombination (coefs_of ps) packet.coefs) (stands.kept packet.batch) apart) in
-          let more : kept_count (list ++ packet ∷ []) ≡ kept_count list + 1 =
-          kept_count-push list packet ∙ ap (λ b. kept_count list + cond b 1 0) new in
-          omega (arith, few, more, counted);
-    }
+one_too_many at packet before shape full is = record {
+  at = at;
+  packet = packet;
+  item_is = refl;
+  full = λ list stands. is_too_many packet before.mixer.held list shape full is stands;
+}
 
 -- a packet that was taken in
 pub TakesIn-packet : (at : ℕ) (packet : Packet) (before after : Intake) → after.session ≡ before.session
@@ -111,16 +93,6 @@ Keeps-nothing seed seed' intake o same none session = record {
 
 -- ---- one item more
 
--- the item that follows has the session's shape
-pub HasShapeOf-place : (session : SessionData) (offset : ℕ) (item : Item) → IsItemAt session offset item → HasShapeOf session item
-HasShapeOf-place session offset (items.Header at) h = tt
-HasShapeOf-place session offset (items.Packet at packet) h = h.1
-
--- the packets of items, and one more
-packets_more : (list : List Item) (at : ℕ) (packet : Packet) → packets_of (list ++ items.Packet at packet ∷ []) ≡ packets_of list ++ packet ∷ []
-unfolding packets_of
-packets_more list at packet = packets_of-append list (items.Packet at packet ∷ [])
-
 kept_as : (seed : List ℕ) (session : SessionData) (list : List Item) (item : Item) (before after : Intake) (result : Result Taken Stop)
     → StandsForAll seed session list before → TakesItem item before after result
     → KeepsAs seed (Some after) session (list ++ item ∷ []) result
@@ -137,7 +109,7 @@ kept_as seed session list item before after (Ok takes.GoesOn) s t =
     }
 kept_as seed session list item before after (Ok takes.Halts) s t =
     let all : packets_of (list ++ item ∷ []) ≡ packets_of list ++ t.packet ∷ [] =
-    ap (λ (i : Item). packets_of (list ++ i ∷ [])) t.item_is ∙ packets_more list t.at t.packet in
+    ap (λ (i : Item). packets_of (list ++ i ∷ [])) t.item_is ∙ packets_of-more list t.at t.packet in
     record {
       before = list;
       at = t.at;
@@ -158,17 +130,10 @@ Keeps-item seed seed' session list item before after start now result same nothi
 
 -- ---- room for one more
 
-count_le : (list : List Item) → length (packets_of list) ≤ length list
-unfolding packets_of
-count_le [] = omega arith
-count_le (items.Header at ∷ list) = omega (arith, count_le list)
-count_le (items.Packet at packet ∷ list) = omega (arith, count_le list)
-
 -- fewer packets came than there may be records
 pub has_room : (seed : List ℕ) (session : SessionData) (list : List Item) (item : Item) (bytes : List ℕ) (intake : Intake)
     → StandsForAll seed session list intake → IsPacketFile session (list ++ item ∷ []) bytes → intake.packets + 1 ≤ most_records
-has_room seed session list item bytes intake s file =
-    omega (arith, s.packets, count_le list, file.few, length-append list (item ∷ []))
+has_room seed session list item bytes intake s file = omega (arith, s.packets, packets_of-room session list item bytes file)
 
 -- ---- what a keeper took out
 

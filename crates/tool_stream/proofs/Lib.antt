@@ -2,5 +2,5 @@ pub mod ShowLines
 pub mod ShowWalks
 pub mod KeptItems
 pub mod SentBatches
-pub mod HeldNumbers
+pub mod SentNumbers
 pub mod RelayWalks

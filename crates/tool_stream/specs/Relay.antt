@@ -1,5 +1,5 @@
 -- What `relay` sends, how it ends on an input, and what it promises.
-use Rattle.std.specs.Prelude.{ℕ, ◌≡◌, ◌⊎◌, Bool, List, ◌++◌, length, flat_map, codes, Some, if◌then◌else◌}
+use Rattle.std.specs.Prelude.{ℕ, ◌≡◌, ◌⊎◌, Bool, List, [], ◌++◌, length, flat_map, codes, Some, if◌then◌else◌}
 use Rattle.std.specs.Fmt.{decimal}
 use Rattle.bats_model.specs.Session.{SessionData}
 use Rattle.bats_model.specs.Kept.{kept_of, kept_count}

@@ -3,26 +3,17 @@ ghost use Rattle.std.specs.Prelude.{◌≡◌, ◌<◌, ◌+◌, ◌^◌, List, 
 ghost use Rattle.bats_model.specs.PacketFile.{HasShape};
 ghost use Rattle.bats_model.specs.declared.item.Item.{Item};
 ghost use Rattle.bats_model.specs.declared.item.Item.TheVariants as items;
-ghost use Rattle.tool_stream.specs.steps.Keeping.{HasShapeOf, Keeps, StandsForItems, TakesItem};
+ghost use Rattle.tool_records.specs.steps.Came.{HasShapeOf};
+ghost use Rattle.tool_stream.specs.steps.Keeping.{Keeps, StandsForItems, TakesItem};
 
 use bats_batch::HeldEnd;
 use bats_io::Sink;
 use bats_model::{Item, Packet, Session};
 use bats_relay::Mixer;
-use gf_rows::Steps;
 use std::alloc::Global;
 use std::sync::ledger::Ledger;
-use tool_records::{Taken, Taker};
+use tool_records::{Counters, Taken, Taker};
 use tool_run::Stop;
-
-/// The two counters of a run, on which the keeping of packets counts.
-#[derive(Drop)]
-pub struct Counters<'a, C: Ledger, L: Ledger> {
-    /// The steps of operations on coefficients.
-    pub coef_steps: &'a mut Steps<C>,
-    /// The steps of operations on whole packets.
-    pub steps: &'a mut Steps<L>,
-}
 
 /// What a relay has taken in of a packet file: the session, what is kept, and how many packets came.
 #[derive(Drop)]

@@ -9,13 +9,13 @@ ghost use Rattle.tool_stream.specs.Relay.{relay_line, relay_promise};
 ghost use Rattle.tool_stream.specs.steps.Relaying.{SendsAs};
 ghost use Rattle.tool_stream.specs.steps.Keeping.{StandsForItems};
 
-use crate::keeping::{Counters, Intake, Keeper};
+use crate::keeping::{Intake, Keeper};
 use crate::sending::send_by_rule;
 use bats_io::{Sink, Source};
 use gf_rows::Steps;
 use std::alloc::{AllocError, Global};
 use std::sync::ledger::Ledger;
-use tool_records::{WalkEnd, refused, walk};
+use tool_records::{Counters, WalkEnd, refused, walk};
 use tool_run::{Finish, Status, Stop, refuse};
 
 // The notes line of a relay that is done: the packets that came, those kept, the batches held, and the outputs sent.

@@ -2,7 +2,7 @@
 use Rattle.std.specs.Prelude.{ℕ, ◌≡◌, ◌≤◌, ◌+◌, List, [], ◌∷◌, ◌++◌, length, Option, None, Some, Result, Ok, Err}
 use Rattle.bats_io.specs.Streams.{OutputState}
 use Rattle.bats_model.specs.Session.{SessionData}
-use Rattle.bats_model.specs.PacketFile.{HasShape, packets_of}
+use Rattle.bats_model.specs.PacketFile.{packets_of}
 use Rattle.bats_model.specs.Kept.{kept_count}
 use Rattle.bats_model.specs.declared.packet.Packet.{Packet}
 use Rattle.bats_model.specs.declared.item.Item.{Item}
@@ -13,13 +13,9 @@ use Rattle.tool_run.specs.declared.stop.Stop.{Stop}
 use Rattle.tool_run.specs.declared.stop.Stop.TheVariants as stops
 use Rattle.tool_records.specs.declared.walking.Taken.{Taken}
 use Rattle.tool_records.specs.declared.walking.Taken.TheVariants as takes
+use Rattle.tool_records.specs.Keeping.{AreFew}
+use Rattle.tool_records.specs.steps.Came.{CameAfterFew, EndsFull}
 use Rattle.tool_stream.specs.declared.keeping.Intake.{Intake}
-use Rattle.tool_stream.specs.Relay.{AreFew}
-
--- the item's packet, if it is one, has the session's shape
-abbrev pub HasShapeOf : SessionData → Item → Type 0
-HasShapeOf session (items.Header at) = Unit {0}
-HasShapeOf session (items.Packet at packet) = HasShape session packet
 
 -- an item was taken in: its packet, if it is one, came too, and no output was made
 pub record TakesIn (item : Item) (before after : Intake) : Type 0 where
@@ -59,22 +55,6 @@ pub record StandsForAll (seed : List ℕ) (session : SessionData) (list : List I
 abbrev pub StandsForItems : List ℕ → Option Intake → SessionData → List Item → Type 0
 StandsForItems seed None session list = list ≡ []
 StandsForItems seed (Some intake) session list = StandsForAll seed session list intake
-
--- after items no more of whose packets are kept than may be, one more came
-pub record CameAfterFew (session : SessionData) (list : List Item) : Type 0 where
-  pub before : List Item
-  pub item : Item
-  pub list_is : list ≡ before ++ item ∷ []
-  pub few : AreFew (Some session) before
-
--- the last item is a packet that would be kept when no more may be
-pub record EndsFull (session : SessionData) (list : List Item) : Type 0 where
-  pub before : List Item
-  pub at : ℕ
-  pub packet : Packet
-  pub list_is : list ≡ before ++ items.Packet at packet ∷ []
-  pub few : AreFew (Some session) before
-  pub full : ¬ AreFew (Some session) list
 
 -- each item was taken in, or the last is a packet too many, or memory ran out for it
 abbrev pub KeepsAs : List ℕ → Option Intake → SessionData → List Item → Result Taken Stop → Type 0

@@ -8,7 +8,8 @@ use Rattle.tool_run.specs.declared.finish.Finish.{Finish}
 use Rattle.tool_run.specs.declared.stop.Stop.{Stop}
 use Rattle.tool_run.specs.declared.status.Status.TheVariants as statuses
 use Rattle.tool_run.specs.Writes.{Writes}
-use Rattle.tool_stream.specs.Relay.{AreHeld, output_count, relayed_ending}
+use Rattle.tool_records.specs.Keeping.{AreHeld}
+use Rattle.tool_stream.specs.Relay.{output_count, relayed_ending}
 
 -- what is sent of all items was written, and the finish is that of its ending
 pub record SendsRight (seed : List ℕ) (extra : Bool) (count : ℕ) (session : SessionData) (list : List Item) (before after : OutputState)

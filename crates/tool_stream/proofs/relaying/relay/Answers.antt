@@ -1,15 +1,18 @@
-use Rattle.std.proofs.Common.{◌∙◌, Option, Ok, Some, refl, sym, subst}
-use Rattle.tool_run.specs.declared.stop.Stop.TheVariants as stops
+use Rattle.std.proofs.Common.{◌∙◌, [], Option, Ok, Err, Some, refl, sym, subst}
+use Rattle.tool_run.specs.declared.stop.Stop.{Stop}
 use Rattle.tool_run.specs.Streams.{Ends}
 use Rattle.tool_run.proofs.Attempts.{Attempts-exit}
 use Rattle.tool_records.specs.declared.walking.WalkEnd.{WalkEnd}
 use Rattle.tool_records.specs.declared.walking.WalkEnd.TheVariants as walks
+use Rattle.tool_records.specs.Keeping.{kept_limit_ending}
+use Rattle.tool_records.specs.Reading.{refused_ending}
 use Rattle.tool_records.specs.Walk.{Walks}
+use Rattle.tool_records.proofs.KeptWalks.{FinishesBy-exit, Attempts-refused, Attempts-full, Attempts-stopped}
 use Rattle.tool_stream.specs.declared.keeping.Intake.{Intake}
-use Rattle.tool_stream.specs.Relay.{relay_promise}
+use Rattle.tool_stream.specs.Relay.{IsRelayEnding, relay_promise}
 use Rattle.tool_stream.specs.steps.Keeping.{Keeps}
 use Rattle.tool_stream.proofs.KeptItems.{Keeps-nothing}
-use Rattle.tool_stream.proofs.RelayWalks.{has_intake-walked, has_stood, Attempts-seed, Attempts-stopped, Attempts-refused, Attempts-refused_unsaid, Attempts-full, Attempts-full_unsaid, Attempts-sent}
+use Rattle.tool_stream.proofs.RelayWalks.{has_intake-walked, has_stood, few_walked, stops_right, Attempts-seed, Attempts-sent}
 use Rattle.tool_stream.proofs.relaying.relay.Goals as goal
 
 pub walk-requires : goal.walk-requires
@@ -21,11 +24,11 @@ pub returns-in_err-walk : goal.returns-in_err-walk
 returns-in_err-walk g c =
     let before : Ends = (record { input = g.S.Source.state c.args.input.now; output = g.O.Sink.state c.args.output.now }) in
     let after : Ends = (record { input = g.S.Source.state c.walk.new.input; output = g.O.Sink.state c.walk.new.output }) in
-    let seed = c.new-keeper.result.seed in
     let taker = c.walk.new.taker in
-    Attempts-seed c.args.seed seed c.args.extra c.args.count before after _ c.new-keeper.ensures.seed
-    (Attempts-exit (relay_promise seed c.args.extra c.args.count) before after c.in_err-walk.field-0.0 _ c.from_residual.ensures.1
-    (Attempts-stopped seed taker.seed c.args.extra c.args.count taker.intake before after c.in_err-walk.field-0.0 c.in_err-walk.ensures))
+    let stop : Stop = c.in_err-walk.field-0.0 in
+    Attempts-exit (relay_promise c.args.seed c.args.extra c.args.count) before after stop _ c.from_residual.ensures.1
+    (Attempts-stopped (IsRelayEnding c.args.seed c.args.extra c.args.count) before after stop
+    (few_walked c.new-keeper.result.seed taker.seed taker.intake before after (Err stop) c.in_err-walk.ensures))
 
 pub into_intake-requires : goal.into_intake-requires
 into_intake-requires g c =
@@ -84,9 +87,9 @@ returns-in_ok-refused-in-Refused g c =
     let taker = c.walk.new.taker in
     let walked : Walks (Keeps seed taker.seed taker.intake) before after (Ok (walks.Refused c.in-Refused.end)) =
     subst (λ (end : WalkEnd). Walks (Keeps seed taker.seed taker.intake) before after (Ok end)) c.in-Refused.is c.in_ok-walk.ensures in
-    Attempts-seed c.args.seed seed c.args.extra c.args.count before after _ c.new-keeper.ensures.seed
-    (Attempts-refused seed taker.seed c.args.extra c.args.count taker.intake before after c.in-Refused.end c.in_ok-refused-in-Refused.field-0
-    walked c.in_ok-refused-in-Refused.ensures.status c.in_ok-refused-in-Refused.ensures.line)
+    Attempts-refused (IsRelayEnding c.args.seed c.args.extra c.args.count) before after (stops_right c.args.seed c.args.extra c.args.count)
+    c.in-Refused.end _ (few_walked seed taker.seed taker.intake before after _ walked)
+    (c.in_ok-refused-in-Refused.ensures.status, c.in_ok-refused-in-Refused.ensures.line)
 
 pub returns-in_err-refused-in-Refused : goal.returns-in_err-refused-in-Refused
 returns-in_err-refused-in-Refused g c =
@@ -96,9 +99,9 @@ returns-in_err-refused-in-Refused g c =
     let taker = c.walk.new.taker in
     let walked : Walks (Keeps seed taker.seed taker.intake) before after (Ok (walks.Refused c.in-Refused.end)) =
     subst (λ (end : WalkEnd). Walks (Keeps seed taker.seed taker.intake) before after (Ok end)) c.in-Refused.is c.in_ok-walk.ensures in
-    Attempts-seed c.args.seed seed c.args.extra c.args.count before after _ c.new-keeper.ensures.seed
-    (Attempts-exit (relay_promise seed c.args.extra c.args.count) before after stops.Memory _ c.from_residual-in_err-refused-in-Refused.ensures.1
-    (Attempts-refused_unsaid seed taker.seed c.args.extra c.args.count taker.intake before after c.in-Refused.end walked))
+    Attempts-refused (IsRelayEnding c.args.seed c.args.extra c.args.count) before after (stops_right c.args.seed c.args.extra c.args.count)
+    c.in-Refused.end _ (few_walked seed taker.seed taker.intake before after _ walked)
+    (FinishesBy-exit (refused_ending [] c.in-Refused.end) _ c.from_residual-in_err-refused-in-Refused.ensures.1)
 
 pub returns-in_ok-refuse-in-Halted : goal.returns-in_ok-refuse-in-Halted
 returns-in_ok-refuse-in-Halted g c =
@@ -108,9 +111,9 @@ returns-in_ok-refuse-in-Halted g c =
     let taker = c.walk.new.taker in
     let walked : Walks (Keeps seed taker.seed taker.intake) before after (Ok walks.Halted) =
     subst (λ (end : WalkEnd). Walks (Keeps seed taker.seed taker.intake) before after (Ok end)) c.in-Halted.is c.in_ok-walk.ensures in
-    Attempts-seed c.args.seed seed c.args.extra c.args.count before after _ c.new-keeper.ensures.seed
-    (Attempts-full seed taker.seed c.args.extra c.args.count taker.intake before after c.in_ok-refuse-in-Halted.field-0
-    walked c.in_ok-refuse-in-Halted.ensures.status c.in_ok-refuse-in-Halted.ensures.line)
+    Attempts-full (IsRelayEnding c.args.seed c.args.extra c.args.count) before after (stops_right c.args.seed c.args.extra c.args.count)
+    _ (few_walked seed taker.seed taker.intake before after _ walked)
+    (c.in_ok-refuse-in-Halted.ensures.status, c.in_ok-refuse-in-Halted.ensures.line)
 
 pub returns-in_err-refuse-in-Halted : goal.returns-in_err-refuse-in-Halted
 returns-in_err-refuse-in-Halted g c =
@@ -120,6 +123,6 @@ returns-in_err-refuse-in-Halted g c =
     let taker = c.walk.new.taker in
     let walked : Walks (Keeps seed taker.seed taker.intake) before after (Ok walks.Halted) =
     subst (λ (end : WalkEnd). Walks (Keeps seed taker.seed taker.intake) before after (Ok end)) c.in-Halted.is c.in_ok-walk.ensures in
-    Attempts-seed c.args.seed seed c.args.extra c.args.count before after _ c.new-keeper.ensures.seed
-    (Attempts-exit (relay_promise seed c.args.extra c.args.count) before after stops.Memory _ c.from_residual-in_err-refuse-in-Halted.ensures.1
-    (Attempts-full_unsaid seed taker.seed c.args.extra c.args.count taker.intake before after walked))
+    Attempts-full (IsRelayEnding c.args.seed c.args.extra c.args.count) before after (stops_right c.args.seed c.args.extra c.args.count)
+    _ (few_walked seed taker.seed taker.intake before after _ walked)
+    (FinishesBy-exit kept_limit_ending _ c.from_residual-in_err-refuse-in-Halted.ensures.1)

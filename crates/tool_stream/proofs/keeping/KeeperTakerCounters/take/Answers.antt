@@ -1,8 +1,9 @@
 use Rattle.std.proofs.Common.{◌≤◌, ◌+◌, ◌∙◌, arith, subst, sym}
 use Rattle.bats_model.specs.PacketFile.{most_records}
 use Rattle.bats_model.specs.Session.{SessionData}
-use Rattle.tool_stream.specs.steps.Keeping.{HasShapeOf}
-use Rattle.tool_stream.proofs.KeptItems.{HasShapeOf-place, Keeps-item, has_room, stands_out}
+use Rattle.tool_records.specs.steps.Came.{HasShapeOf}
+use Rattle.tool_records.proofs.KeptItems.{HasShapeOf-place}
+use Rattle.tool_stream.proofs.KeptItems.{Keeps-item, has_room, stands_out}
 use Rattle.tool_stream.proofs.keeping.KeeperTakerCounters.take.Goals as goal
 
 pub keep_item-taken-requires-clause-shape : goal.keep_item-taken-requires-clause-shape
