@@ -62,14 +62,16 @@ Agrees-taken session seed batch number packets file range shapes agrees =
     Agrees-output session seed batch number (kept_of batch packets) file range (All-kept_of (HasShape session) batch packets shapes)
     (own-kept batch packets) (((kept-agreement session packets file shapes).0 agrees).0 batch)
 
--- the same of held batches that stand for the packets
+-- what is held of a batch, which stands for packets of the session's shape, is enough for it
 pub Agrees-held : (packets : List Packet) (held : HeldData) (seed : List ℕ) (batch number : ℕ) (file : List ℕ) (packet : Packet)
-    → batch < 2 ^ 32 → StandsFor packets held → AgreesWithAll held.session packets file
+    → batch < 2 ^ 32 → StandsFor packets held → AgreesWithAll held.session (kept_at held.batches batch) file
     → packet ≡ relay_output held.session seed batch number (kept_at held.batches batch) → Agrees held.session file packet
 Agrees-held packets held seed batch number file packet range stands agrees is =
-    subst (Agrees held.session file)
-    (sym (is ∙ ap (relay_output held.session seed batch number) (stands.kept batch)))
-    (Agrees-taken held.session seed batch number packets file range stands.shapes agrees)
+    let kept : kept_at held.batches batch ≡ kept_of batch packets = stands.kept batch in
+    subst (Agrees held.session file) (sym (is ∙ ap (relay_output held.session seed batch number) kept))
+    (Agrees-output held.session seed batch number (kept_of batch packets) file range
+    (All-kept_of (HasShape held.session) batch packets stands.shapes) (own-kept batch packets)
+    (subst (λ (ps : List Packet). AgreesWithAll held.session ps file) kept agrees))
 
 pub AgreesWithAll-outputs : (session : SessionData) (seed : List ℕ) (batch first count : ℕ) (packets : List Packet) (file : List ℕ)
     → batch < 2 ^ 32 → All (HasShape session) packets → AgreesWithAll session packets file

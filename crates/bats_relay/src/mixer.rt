@@ -110,7 +110,8 @@ impl Mixer {
             self.old.seed batch (sent_of self.old batch) (kept_at self.old.held.batches batch))) }
         ensures shape { IfOk result (λ made. IfSome made (HasShape self.old.held.session)) }
         ensures agrees { IfOk result (λ made. IfSome made (λ packet. (packets : List Packet) (file : List ℕ)
-            → StandsFor packets self.old.held → AgreesWithAll self.old.held.session packets file
+            → StandsFor packets self.old.held
+            → AgreesWithAll self.old.held.session (kept_at self.old.held.batches batch) file
             → Agrees self.old.held.session file packet)) }
         ensures sent { IfOk result (λ made. MatchOption made (self.new ≡ self.old)
             (λ _. HasSentOne batch self.old self.new)) }

@@ -88,7 +88,8 @@ impl<F: Fn(u32) -> u32> Relay<F> {
             self.old.mixer.seed batch (sent_of self.old.mixer batch) (kept_at self.old.mixer.held.batches batch))) }
         ensures shape { IfOk result (λ made. IfSome made (HasShape self.old.mixer.held.session)) }
         ensures agrees { IfOk result (λ made. IfSome made (λ packet. (packets : List Packet) (file : List ℕ)
-            → StandsFor packets self.old.mixer.held → AgreesWithAll self.old.mixer.held.session packets file
+            → StandsFor packets self.old.mixer.held
+            → AgreesWithAll self.old.mixer.held.session (kept_at self.old.mixer.held.batches batch) file
             → Agrees self.old.mixer.held.session file packet)) }
         ensures sent { IfOk result (λ made. MatchOption made (self.new ≡ self.old)
             (λ _. HasSentOne batch self.old.mixer self.new.mixer)) }
