@@ -1,5 +1,5 @@
-pub mod Received
-pub mod SinkAnswers
-pub mod SinkAttempts
+pub mod ReceivedItems
+pub mod ReceivedInputs
+pub mod ToldEndings
+pub mod CheckLines
 pub mod SinkKept
-pub mod SinkEndings

@@ -1,8 +1,12 @@
--- A sink's promise keeps what the run of any command rests on.
+-- The promises of the commands that solve keep what the run of any command rests on.
 use Rattle.std.proofs.Common.{Bool}
 use Rattle.tool_run.specs.Promise.{Keeps}
-use Rattle.tool_run.proofs.Begun.{IsBegun-whole}
+use Rattle.tool_records.proofs.KeptWalks.{keeping_promise-keeps}
 use Rattle.tool_sink.specs.Sink.{IsSinkEnding, sink_promise}
+use Rattle.tool_sink.specs.Check.{IsCheckEnding, check_promise}
 
 pub sink_promise-keeps : (both : Bool) → Keeps (sink_promise both)
-sink_promise-keeps both = record { whole = λ input ending e. IsBegun-whole (IsSinkEnding both) input ending e }
+sink_promise-keeps both = keeping_promise-keeps (IsSinkEnding both)
+
+pub check_promise-keeps : Keeps check_promise
+check_promise-keeps = keeping_promise-keeps IsCheckEnding

@@ -1,2 +1,4 @@
 pub mod Receiving
-pub mod Answering
+pub mod Reception
+pub mod Telling
+pub mod Lines

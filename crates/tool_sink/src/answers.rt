@@ -1,58 +1,75 @@
-//! What a sink writes of an answer.
-ghost use Rattle.std.specs.Prelude.{◌≡◌, ◌++◌, List, [], string_bytes, IfOk, if◌then◌else◌};
-ghost use Rattle.std.specs.Result.{result_err};
-ghost use Rattle.tool_sink.specs.Sink.{file_line, inconsistent_line, need_more_line, answer_line, answer_output, answer_status};
-ghost use Rattle.tool_run.specs.Writes.{Writes};
+//! What is said of an answer, by each command that solves.
+ghost use Rattle.std.specs.Prelude.{◌≡◌, ◌++◌, codes, string_bytes, IfOk};
+ghost use Rattle.std.specs.Fmt.{decimal};
+ghost use Rattle.tool_sink.specs.Answers.{answer_line, answer_status, counts_text};
 
-use bats_io::Sink;
+use bats_decode::Solved;
 use bats_model::Answer;
 use std::alloc::{AllocError, Global};
-use tool_run::{Status, Stop, write_bytes};
+use tool_run::{Finish, Status};
 
 // The notes line of a file that was found, for so many packets received and kept.
-fn file_text(alloc: Global, length: u64, packets: u64, kept: u32) -> Result<String, AllocError>
-    ensures { IfOk result (λ line. string_bytes line ≡ file_line length packets kept) }
+fn file_line(
+    alloc: Global,
+    name: &str,
+    length: u64,
+    packets: u64,
+    kept: u32,
+) -> Result<String, AllocError>
+    ensures { IfOk result (λ line. string_bytes line
+        ≡ name.now ++ (codes ": file length=" ++ (decimal length ++ counts_text packets kept))) }
 {
-    format!(in alloc; "sink: file length={length} packets={packets} kept={kept}\n")
+    format!(in alloc; "{name}: file length={length} packets={packets} kept={kept}\n")
 }
 
 // The notes line where no file agrees.
-fn inconsistent_text(alloc: Global, packets: u64, kept: u32) -> Result<String, AllocError>
-    ensures { IfOk result (λ line. string_bytes line ≡ inconsistent_line packets kept) }
+fn inconsistent_line(
+    alloc: Global,
+    name: &str,
+    packets: u64,
+    kept: u32,
+) -> Result<String, AllocError>
+    ensures { IfOk result (λ line. string_bytes line
+        ≡ name.now ++ (codes ": inconsistent" ++ counts_text packets kept)) }
 {
-    format!(in alloc; "sink: inconsistent packets={packets} kept={kept}\n")
+    format!(in alloc; "{name}: inconsistent packets={packets} kept={kept}\n")
 }
 
 // The notes line where two files agree, which differ in this symbol.
-fn need_more_text(
+fn need_more_line(
     alloc: Global,
+    name: &str,
     at_symbol: u32,
     packets: u64,
     kept: u32,
 ) -> Result<String, AllocError>
-    ensures { IfOk result (λ line. string_bytes line ≡ need_more_line at_symbol packets kept) }
+    ensures { IfOk result (λ line. string_bytes line
+        ≡ name.now ++ (codes ": need-more open=" ++ (decimal at_symbol ++ counts_text packets kept))) }
 {
-    format!(in alloc; "sink: need-more open={at_symbol} packets={packets} kept={kept}\n")
+    format!(in alloc; "{name}: need-more open={at_symbol} packets={packets} kept={kept}\n")
 }
 
-/// The notes line of an answer, for so many packets received and kept.
-pub fn answer_text(
+// The notes line of an answer, from the name of the command on, for so many packets received and kept.
+fn answer_line(
     alloc: Global,
+    name: &str,
     answer: &Answer,
     packets: u64,
     kept: u32,
 ) -> Result<String, AllocError>
-    ensures { IfOk result (λ line. string_bytes line ≡ answer_line packets kept answer.now) }
+    ensures { IfOk result (λ line. string_bytes line ≡ answer_line name.now packets kept answer.now) }
 {
     match answer {
-        Answer::File(file) => file_text(alloc, file.len() as u64, packets, kept),
-        Answer::Inconsistent => inconsistent_text(alloc, packets, kept),
-        Answer::NeedMore { at_symbol, .. } => need_more_text(alloc, *at_symbol, packets, kept),
+        Answer::File(file) => file_line(alloc, name, file.len() as u64, packets, kept),
+        Answer::Inconsistent => inconsistent_line(alloc, name, packets, kept),
+        Answer::NeedMore { at_symbol, .. } => {
+            need_more_line(alloc, name, *at_symbol, packets, kept)
+        }
     }
 }
 
-/// The status of an answer.
-pub fn status_of_answer(answer: &Answer) -> Status
+// The status of an answer.
+fn status_of_answer(answer: &Answer) -> Status
     ensures { result ≡ answer_status answer.now }
 {
     match answer {
@@ -62,28 +79,15 @@ pub fn status_of_answer(answer: &Answer) -> Status
     }
 }
 
-// Writes two files, one after the other, where both are asked for.
-fn write_pair<O: Sink>(output: &mut O, both: bool, first: &[u8], second: &[u8]) -> Result<(), Stop>
-    ensures { Writes (O.state output.old) (O.state output.new)
-        (if both then (first.now ++ second.now) else []) (result_err result) }
+/// How a run of the command of this name ends that found this answer.
+pub fn finish_of(alloc: Global, name: &str, solved: &Solved) -> Result<Finish, AllocError>
+    ensures status { IfOk result (λ finish. finish.status ≡ answer_status solved.now.answer) }
+    ensures line { IfOk result (λ finish. string_bytes finish.line
+        ≡ answer_line name.now solved.now.packets solved.now.kept solved.now.answer) }
 {
-    if !both {
-        return Ok(());
-    }
-    write_bytes(output, first)?;
-    write_bytes(output, second)
-}
-
-/// Writes what an answer gives: the file, or both files where they are asked for, or nothing.
-pub fn write_answer<O: Sink>(output: &mut O, both: bool, answer: &Answer) -> Result<(), Stop>
-    ensures { Writes (O.state output.old) (O.state output.new)
-        (answer_output both answer.now) (result_err result) }
-{
-    match answer {
-        Answer::File(file) => write_bytes(output, file.as_slice()),
-        Answer::Inconsistent => Ok(()),
-        Answer::NeedMore { first, second, .. } => {
-            write_pair(output, both, first.as_slice(), second.as_slice())
-        }
-    }
+    let line = answer_line(alloc, name, &solved.answer, solved.packets, solved.kept)?;
+    Ok(Finish {
+        status: status_of_answer(&solved.answer),
+        line,
+    })
 }

@@ -1,8 +1,11 @@
-//! The command `sink`: the file that packets give, or why there is none.
+//! The commands that solve for the file of packets: `sink` writes it, or says why there is none, and `check` writes what
+//! is held of each batch and what the answer is.
 #![tactic(auto)]
 
 mod answers;
+mod checking;
 mod receiving;
 mod sinking;
 
+pub use checking::check;
 pub use sinking::sink;

@@ -1,99 +1,110 @@
-//! Receives the packets that a walk gives.
+//! Receives the packets of an input.
 ghost use Rattle.std.specs.Prelude.{◌≡◌, List, IsSome, Some, None};
 ghost use Rattle.bats_model.specs.PacketFile.{HasShape};
 ghost use Rattle.bats_model.specs.declared.item.Item.{Item};
 ghost use Rattle.bats_model.specs.declared.item.Item.TheVariants as items;
-ghost use Rattle.tool_sink.specs.steps.Receiving.{HasShapeOf, Receives, StandsForItems, TakesItem};
+ghost use Rattle.tool_records.specs.steps.Came.{HasShapeOf};
+ghost use Rattle.tool_sink.specs.steps.Receiving.{Receives, StandsForItems, TakesItem};
+ghost use Rattle.tool_sink.specs.steps.Reception.{ReceivesAll};
 
+use bats_batch::HeldEnd;
 use bats_decode::Decoder;
-use bats_io::Sink;
-use bats_model::{Item, Packet, Session, is_plain};
-use gf_rows::Steps;
+use bats_io::{Sink, Source};
+use bats_model::{Item, Packet, Session};
 use std::alloc::Global;
 use std::sync::ledger::Ledger;
-use tool_records::{Taken, Taker};
-use tool_run::Stop;
+use tool_records::{Counters, Taken, Taker, WalkEnd, refused, walk};
+use tool_run::{Finish, Status, Stop, refuse};
 
-/// The two counters of a run, on which the solving for a file counts.
+/// What was received of a packet file: its session, and the decoder that has received the packets.
 #[derive(Drop)]
-pub struct Counters<'a, C: Ledger, L: Ledger> {
-    /// The steps of operations on coefficients.
-    pub coef_steps: &'a mut Steps<C>,
-    /// The steps of operations on whole packets.
-    pub steps: &'a mut Steps<L>,
+pub struct Intake {
+    /// The session of the packets.
+    pub session: Session,
+    /// The decoder of that session.
+    pub decoder: Decoder,
 }
 
-/// Receives packets, each of which has to be plain: at another it halts.
+/// How an input was received that no stop cuts short.
 #[derive(Drop)]
-pub struct Receiver {
+pub enum Reception {
+    /// The whole input is a packet file, and its packets were received.
+    Whole(Intake),
+    /// The input isn't taken whole, and the run ends so.
+    Ended(Finish),
+}
+
+// Receives packets: at one that would be kept when no more may be it halts.
+#[derive(Drop)]
+struct Receiver {
     // Made for the session that the first item brings.
-    decoder: Option<Decoder>,
+    intake: Option<Intake>,
 }
 
-// Offers a packet to the decoder, if it is plain.
-fn offer_plain<C: Ledger, L: Ledger>(
-    session: &Session,
+// Offers a packet to the decoder.
+fn offer<C: Ledger, L: Ledger>(
     decoder: &mut Decoder,
     packet: &Packet,
     at: u64,
     counters: &mut Counters<C, L>,
 ) -> Result<Taken, Stop>
-    requires session { decoder.old.session ≡ session.now }
-    requires shape { HasShape session.now packet.now }
-    ensures { TakesItem session.now (items.Packet at packet.now) decoder.old decoder.new result }
+    requires { HasShape decoder.old.held.session packet.now }
+    ensures { TakesItem (items.Packet at packet.now) decoder.old decoder.new result }
 {
-    if !is_plain(session, packet) {
-        return Ok(Taken::Halts);
-    }
     match decoder.offer(packet, counters.coef_steps, counters.steps) {
-        Ok(()) => Ok(Taken::GoesOn),
-        Err(_) => Err(Stop::Memory),
+        Ok(()) => {
+            let _few = decoder.held().rows();
+            Ok(Taken::GoesOn)
+        }
+        Err(HeldEnd::Full) => Ok(Taken::Halts),
+        Err(HeldEnd::Memory) => Err(Stop::Memory),
     }
 }
 
 // Receives the packet of an item, if it is one.
 fn receive<C: Ledger, L: Ledger>(
-    session: &Session,
     decoder: &mut Decoder,
     item: &Item,
     counters: &mut Counters<C, L>,
 ) -> Result<Taken, Stop>
-    requires session { decoder.old.session ≡ session.now }
-    requires shape { HasShapeOf session.now item.now }
-    ensures { TakesItem session.now item.now decoder.old decoder.new result }
+    requires { HasShapeOf decoder.old.held.session item.now }
+    ensures { TakesItem item.now decoder.old decoder.new result }
 {
     match item {
         Item::Header { .. } => Ok(Taken::GoesOn),
-        Item::Packet { at, packet } => offer_plain(session, decoder, packet, *at, counters),
+        Item::Packet { at, packet } => offer(decoder, packet, *at, counters),
     }
 }
 
 impl Receiver {
-    /// A receiver of nothing.
-    pub fn new() -> Receiver
-        ensures { result.decoder ≡ None }
+    // A receiver of nothing.
+    fn new() -> Receiver
+        ensures { result.intake ≡ None }
     {
-        Receiver { decoder: None }
+        Receiver { intake: None }
     }
 
-    // Takes out the decoder, which is made for the session where there is none yet.
-    fn take_decoder(&mut self, alloc: Global, session: &Session) -> Decoder
-        ensures { (list : List Item) → StandsForItems self.old.decoder session.now list
+    // Takes out what was received, which is made for the session where there is none yet.
+    fn take_intake(&mut self, alloc: Global, session: &Session) -> Intake
+        ensures { (list : List Item) → StandsForItems self.old.intake session.now list
             → StandsForItems (Some result) session.now list }
     {
-        match self.decoder.take() {
-            Some(decoder) => decoder,
-            None => Decoder::new(alloc, *session),
+        match self.intake.take() {
+            Some(intake) => intake,
+            None => Intake {
+                session: *session,
+                decoder: Decoder::new(alloc, *session),
+            },
         }
     }
 
-    /// The decoder of a receiver that has received some item.
-    pub fn into_decoder(self) -> Decoder
-        requires { IsSome self.decoder }
-        ensures { self.decoder ≡ Some result }
+    // What a receiver has received to which some item came.
+    fn into_intake(self) -> Intake
+        requires { IsSome self.intake }
+        ensures { self.intake ≡ Some result }
     {
-        match self.decoder {
-            Some(decoder) => decoder,
+        match self.intake {
+            Some(intake) => intake,
             None => unreachable!(),
         }
     }
@@ -101,7 +112,7 @@ impl Receiver {
 
 impl<C: Ledger, L: Ledger> Taker<Counters<'_, C, L>> for Receiver {
     ghost gives = { λ first given now counters session list start output result.
-        Receives now.decoder session list start output result };
+        Receives now.intake session list start output result };
 
     fn take<O: Sink>(
         &mut self,
@@ -111,9 +122,33 @@ impl<C: Ledger, L: Ledger> Taker<Counters<'_, C, L>> for Receiver {
         output: &mut O,
         counters: &mut Counters<'_, C, L>,
     ) -> Result<Taken, Stop> {
-        let mut decoder = self.take_decoder(alloc, session);
-        let taken = receive(session, &mut decoder, &item, counters);
-        self.decoder = Some(decoder);
+        let mut intake = self.take_intake(alloc, session);
+        let taken = receive(&mut intake.decoder, &item, counters);
+        self.intake = Some(intake);
         taken
+    }
+}
+
+/// Receives the packets of the input, to its end, or to the first record that is refused or packet that is one too many.
+/// Nothing is written.
+pub fn receive_all<S: Source, O: Sink, C: Ledger, L: Ledger>(
+    alloc: Global,
+    input: &mut S,
+    output: &mut O,
+    counters: &mut Counters<C, L>,
+) -> Result<Reception, Stop>
+    ensures { ReceivesAll
+        (record { input = S.state input.old; output = O.state output.old })
+        (record { input = S.state input.new; output = O.state output.new })
+        result }
+{
+    let mut receiver = Receiver::new();
+    match walk(alloc, input, &mut receiver, output, counters)? {
+        WalkEnd::Whole => Ok(Reception::Whole(receiver.into_intake())),
+        WalkEnd::Refused(end) => Ok(Reception::Ended(refused(alloc, end)?)),
+        WalkEnd::Halted => {
+            let finish = refuse(alloc, Status::Limit, "bats: limit kept\n")?;
+            Ok(Reception::Ended(finish))
+        }
     }
 }

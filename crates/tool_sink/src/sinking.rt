@@ -1,38 +1,54 @@
 //! The command `sink`.
-ghost use Rattle.std.specs.Prelude.{◌≡◌, List, string_bytes, IfOk};
-ghost use Rattle.bats_model.specs.declared.packet.Packet.{Packet};
+ghost use Rattle.std.specs.Prelude.{◌≡◌, ◌++◌, List, [], length, if◌then◌else◌};
+ghost use Rattle.std.specs.Result.{result_err};
 ghost use Rattle.bats_decode.specs.Decoder.{StandsFor};
-ghost use Rattle.tool_run.specs.Attempt.{Attempts};
-ghost use Rattle.tool_sink.specs.steps.Answering.{AnswersAs};
+ghost use Rattle.bats_model.specs.declared.packet.Packet.{Packet};
 ghost use Rattle.bats_words.specs.Options.{HasWorkers};
-ghost use Rattle.tool_sink.specs.Sink.{answer_line, answer_status, sink_promise};
+ghost use Rattle.tool_run.specs.Attempt.{Attempts};
+ghost use Rattle.tool_run.specs.Writes.{Writes};
+ghost use Rattle.tool_sink.specs.Sink.{answer_output, sink_promise};
+ghost use Rattle.tool_sink.specs.steps.Telling.{IsFileEnding, TellsAs};
 
-use crate::answers::{answer_text, status_of_answer, write_answer};
-use crate::receiving::{Counters, Receiver};
-use bats_decode::{Decoder, Solved};
+use crate::answers::finish_of;
+use crate::receiving::{Reception, receive_all};
+use bats_decode::Decoder;
 use bats_io::{Sink, Source};
 use bats_model::Answer;
 use gf_rows::Steps;
-use std::alloc::{AllocError, Global};
+use std::alloc::Global;
 use std::sync::ledger::Ledger;
 use std::thread::Threads;
-use tool_records::{WalkEnd, refused, walk};
-use tool_run::{Finish, Status, Stop, refuse};
+use tool_records::Counters;
+use tool_run::{Finish, Stop, write_bytes};
 
-// How the run ends that found this answer.
-fn finish_of(alloc: Global, solved: &Solved) -> Result<Finish, AllocError>
-    ensures { IfOk result (λ finish. (finish.status ≡ answer_status solved.now.answer)
-        × (string_bytes finish.line ≡ answer_line solved.now.packets solved.now.kept solved.now.answer)) }
+// Writes two files, one after the other, where both are asked for.
+fn write_pair<O: Sink>(output: &mut O, both: bool, first: &[u8], second: &[u8]) -> Result<(), Stop>
+    ensures { Writes (O.state output.old) (O.state output.new)
+        (if both then (first.now ++ second.now) else []) (result_err result) }
 {
-    let line = answer_text(alloc, &solved.answer, solved.packets, solved.kept)?;
-    Ok(Finish {
-        status: status_of_answer(&solved.answer),
-        line,
-    })
+    if !both {
+        return Ok(());
+    }
+    write_bytes(output, first)?;
+    write_bytes(output, second)
+}
+
+// Writes what an answer gives: the file, or both files where they are asked for, or nothing.
+fn write_answer<O: Sink>(output: &mut O, both: bool, answer: &Answer) -> Result<(), Stop>
+    ensures { Writes (O.state output.old) (O.state output.new)
+        (answer_output both answer.now) (result_err result) }
+{
+    match answer {
+        Answer::File(file) => write_bytes(output, file.as_slice()),
+        Answer::Inconsistent => Ok(()),
+        Answer::NeedMore { first, second, .. } => {
+            write_pair(output, both, first.as_slice(), second.as_slice())
+        }
+    }
 }
 
 // Solves for the file of the packets that were received, and writes the answer.
-fn answer<R: Threads + Sync, O: Sink, C: Ledger, L: Ledger>(
+fn write_file<R: Threads + Sync, O: Sink, C: Ledger, L: Ledger>(
     rt: &R,
     alloc: Global,
     workers: u32,
@@ -42,13 +58,14 @@ fn answer<R: Threads + Sync, O: Sink, C: Ledger, L: Ledger>(
     counters: &mut Counters<C, L>,
 ) -> Result<Finish, Stop>
     requires { HasWorkers workers }
-    ensures { (packets : List Packet) → StandsFor packets decoder → AnswersAs both decoder packets
+    ensures { (packets : List Packet) → StandsFor packets decoder → decoder.packets ≡ length packets
+        → TellsAs (IsFileEnding both decoder.held.session packets)
         (O.state output.old)
         (O.state output.new)
         result }
 {
     let solved = decoder.solve(rt, workers, counters.coef_steps, counters.steps)?;
-    let finish = finish_of(alloc, &solved)?;
+    let finish = finish_of(alloc, "sink", &solved)?;
     write_answer(output, both, &solved.answer)?;
     Ok(finish)
 }
@@ -71,15 +88,17 @@ pub fn sink<R: Threads + Sync, S: Source, O: Sink, C: Ledger, L: Ledger>(
         (record { input = S.state input.new; output = O.state output.new })
         result }
 {
-    let mut receiver = Receiver::new();
     let mut counters = Counters { coef_steps, steps };
-    match walk(alloc, input, &mut receiver, output, &mut counters) {
-        Ok(WalkEnd::Whole) => {
-            let decoder = receiver.into_decoder();
-            answer(rt, alloc, workers, both, decoder, output, &mut counters)
-        }
-        Ok(WalkEnd::Refused(end)) => Ok(refused(alloc, end)?),
-        Ok(WalkEnd::Halted) => Ok(refuse(alloc, Status::NotBuilt, "bats: not built\n")?),
-        Err(stop) => Err(stop),
+    match receive_all(alloc, input, output, &mut counters)? {
+        Reception::Whole(intake) => write_file(
+            rt,
+            alloc,
+            workers,
+            both,
+            intake.decoder,
+            output,
+            &mut counters,
+        ),
+        Reception::Ended(finish) => Ok(finish),
     }
 }

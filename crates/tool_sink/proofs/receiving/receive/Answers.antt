@@ -1,10 +1,9 @@
 use Rattle.std.proofs.Common.{sym, subst}
 use Rattle.bats_model.specs.declared.item.Item.{Item}
 use Rattle.tool_sink.specs.steps.Receiving.{TakesIn}
-use Rattle.tool_sink.proofs.Received.{TakesIn-header}
+use Rattle.tool_sink.proofs.ReceivedItems.{TakesIn-header}
 use Rattle.tool_sink.proofs.receiving.receive.Goals as goal
 
 pub returns-in-Header : goal.returns-in-Header
 returns-in-Header g c =
-    subst (λ (i : Item). TakesIn i c.args.decoder.now c.args.decoder.now) (sym c.in-Header.is)
-    (TakesIn-header c.in-Header.at c.args.decoder.now)
+    subst (λ (item : Item). TakesIn item c.args.decoder.now c.args.decoder.now) (sym c.in-Header.is) (TakesIn-header _ c.args.decoder.now)

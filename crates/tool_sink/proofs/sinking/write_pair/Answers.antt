@@ -2,7 +2,7 @@ use Rattle.std.proofs.Common.{◌++◌, [], Bool, if◌then◌else◌, sym, subs
 use Rattle.std.specs.Result.{result_err}
 use Rattle.tool_run.specs.Writes.{Writes}
 use Rattle.tool_run.proofs.Writing.{Writes-after}
-use Rattle.tool_sink.proofs.answers.write_pair.Goals as goal
+use Rattle.tool_sink.proofs.sinking.write_pair.Goals as goal
 
 pub returns : goal.returns
 returns g c =

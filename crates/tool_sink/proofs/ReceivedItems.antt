@@ -1,0 +1,101 @@
+-- What a receiver has received of the items of a packet file.
+use Rattle.std.proofs.Common.{ℕ, ◌≡◌, ◌≤◌, List, [], ◌∷◌, ◌++◌, Some, Result, Ok, Err, refl, sym, ap, ◌∙◌, subst, append-nil}
+use Rattle.bats_io.specs.Streams.{OutputState}
+use Rattle.bats_batch.specs.Basis.{IsTaken}
+use Rattle.bats_batch.specs.Held.{kept_at, row_count, max_kept}
+use Rattle.bats_decode.specs.Decoder.{DecoderData, StandsFor}
+use Rattle.bats_format.proofs.JoinedFiles.{packets_of-append}
+use Rattle.bats_model.specs.Session.{SessionData}
+use Rattle.bats_model.specs.PacketFile.{HasShape, packets_of}
+use Rattle.bats_model.specs.Kept.{kept_count}
+use Rattle.bats_model.specs.declared.packet.Packet.{Packet}
+use Rattle.bats_model.specs.declared.item.Item.{Item}
+use Rattle.bats_model.specs.declared.item.Item.TheVariants as items
+use Rattle.bats_model.specs.declared.taken.Taken.TheVariants.{Kept}
+use Rattle.tool_run.specs.declared.stop.Stop.{Stop}
+use Rattle.tool_records.specs.declared.walking.Taken.{Taken}
+use Rattle.tool_records.specs.declared.walking.Taken.TheVariants as takes
+use Rattle.tool_records.proofs.KeptItems.{AreFew-nothing, is_too_many, packets_of-more}
+use Rattle.tool_sink.specs.declared.receiving.Intake.{Intake}
+use Rattle.tool_sink.specs.steps.Receiving.{Receives, ReceivesAs, StandsForAll, TakesIn, TakesItem, IsOneTooMany}
+
+-- ---- one packet
+
+-- a new packet when no more may be kept
+pub IsOneTooMany-new : (at : ℕ) (packet : Packet) (before : DecoderData) → HasShape before.held.session packet
+    → row_count before.held.batches ≡ max_kept → IsTaken (kept_at before.held.batches packet.batch) packet Kept
+    → IsOneTooMany (items.Packet at packet) before
+IsOneTooMany-new at packet before shape full is = record {
+  at = at;
+  packet = packet;
+  item_is = refl;
+  full = λ list stands. is_too_many packet before.held list shape full is stands.holds;
+}
+
+-- a packet that was taken in
+pub TakesIn-packet : (at : ℕ) (packet : Packet) (before after : DecoderData) → after.held.session ≡ before.held.session
+    → ((list : List Packet) → StandsFor list before → StandsFor (list ++ packet ∷ []) after)
+    → ((list : List Packet) → StandsFor list after → kept_count list ≤ max_kept)
+    → TakesIn (items.Packet at packet) before after
+unfolding packets_of
+TakesIn-packet at packet before after session stands few = record {
+  session = session;
+  stands = stands;
+  few = λ list h under. few (list ++ packet ∷ []) (stands list h);
+}
+
+-- a header leaves all as it was
+pub TakesIn-header : (at : ℕ) (decoder : DecoderData) → TakesIn (items.Header at) decoder decoder
+unfolding packets_of
+TakesIn-header at decoder = record {
+  session = refl;
+  stands = λ list h. subst (λ (xs : List Packet). StandsFor xs decoder) (sym (append-nil list)) h;
+  few = λ list h under. subst (λ (xs : List Packet). kept_count xs ≤ max_kept) (sym (append-nil list)) under;
+}
+
+-- ---- no item yet
+
+-- an intake that was made for the session
+pub StandsForAll-new : (session : SessionData) (list : List Item) (intake : Intake) → list ≡ [] → intake.session ≡ session
+    → intake.decoder.held.session ≡ session → StandsFor [] intake.decoder → StandsForAll session list intake
+unfolding packets_of
+StandsForAll-new session list intake e same held stands = record {
+  session_is = same;
+  held_session = held;
+  stands = subst (λ (xs : List Item). StandsFor (packets_of xs) intake.decoder) (sym e) stands;
+  few = AreFew-nothing session list e;
+}
+
+-- ---- one item more
+
+received_as : (session : SessionData) (list : List Item) (item : Item) (before after : Intake) (result : Result Taken Stop)
+    → after.session ≡ before.session → StandsForAll session list before → TakesItem item before.decoder after.decoder result
+    → ReceivesAs (Some after) session (list ++ item ∷ []) result
+received_as session list item before after (Ok takes.GoesOn) same s t =
+    let all : packets_of (list ++ item ∷ []) ≡ packets_of list ++ packets_of (item ∷ []) = packets_of-append list (item ∷ []) in
+    record {
+      session_is = same ∙ s.session_is;
+      held_session = t.session ∙ s.held_session;
+      stands = subst (λ (xs : List Packet). StandsFor xs after.decoder) (sym all) (t.stands (packets_of list) s.stands);
+      few = subst (λ (xs : List Packet). kept_count xs ≤ max_kept) (sym all) (t.few (packets_of list) s.stands s.few);
+    }
+received_as session list item before after (Ok takes.Halts) same s t =
+    let all : packets_of (list ++ item ∷ []) ≡ packets_of list ++ t.packet ∷ [] =
+    ap (λ (i : Item). packets_of (list ++ i ∷ [])) t.item_is ∙ packets_of-more list t.at t.packet in
+    record {
+      before = list;
+      at = t.at;
+      packet = t.packet;
+      list_is = ap (λ (i : Item). list ++ i ∷ []) t.item_is;
+      few = s.few;
+      full = λ few. t.full (packets_of list) s.stands (subst (λ (xs : List Packet). kept_count xs ≤ max_kept) all few);
+    }
+received_as session list item before after (Err stop) same s t =
+    (t, record { before = list; item = item; list_is = refl; few = s.few })
+
+-- an item more was given to the decoder
+pub Receives-item : (session : SessionData) (list : List Item) (item : Item) (before after : Intake) (start now : OutputState)
+    (result : Result Taken Stop) → after.session ≡ before.session → now ≡ start → StandsForAll session list before
+    → TakesItem item before.decoder after.decoder result → Receives (Some after) session (list ++ item ∷ []) start now result
+Receives-item session list item before after start now result same nothing s t =
+    record { as_far = received_as session list item before after result same s t; nothing_written = nothing }

@@ -1,0 +1,293 @@
+-- A command that has received all packets, from what it then told.
+use Rattle.std.proofs.Common.{ℕ, ◌≡◌, ◌≤◌, ◌-◌, ◌^◌, min, ◌∙◌, ap, Bool, List, ◌++◌, None, Some, Result, Ok, Err, refl, sym, subst, inl, inr, arith, length}
+use Rattle.std.specs.Prelude.{string_bytes, codes}
+use Rattle.std.specs.Result.{IsErrAnd}
+use Rattle.std.proofs.lemmas.Result.{err_from_is_err_and}
+use Rattle.bats_io.specs.Streams.{OutputState}
+use Rattle.bats_batch.specs.Held.{HeldData}
+use Rattle.bats_batch.specs.Held.{StandsFor as HoldsFor}
+use Rattle.bats_decode.specs.Decoder.{StandsFor}
+use Rattle.bats_model.specs.PacketFile.{packets_of, most_records}
+use Rattle.bats_model.specs.Session.{SessionData}
+use Rattle.bats_model.specs.Kept.{kept_count}
+use Rattle.bats_model.specs.RightAnswer.{IsRightAnswer}
+use Rattle.bats_model.specs.declared.packet.Packet.{Packet}
+use Rattle.bats_model.specs.declared.answer.Answer.{Answer}
+use Rattle.bats_model.specs.declared.answer.Answer.TheVariants.{File, Inconsistent, NeedMore}
+use Rattle.tool_run.specs.declared.finish.Finish.{Finish}
+use Rattle.tool_run.specs.declared.stop.Stop.{Stop}
+use Rattle.tool_run.specs.declared.stop.Stop.TheVariants as stops
+use Rattle.tool_run.specs.Attempt.{Attempts, AttemptsAs, IsOfEnding}
+use Rattle.tool_run.specs.Ending.{Ending, Reach, HasRead, to_end}
+use Rattle.tool_run.specs.Promise.{IsBegun}
+use Rattle.tool_run.specs.Streams.{Ends}
+use Rattle.tool_run.specs.Writes.{Writes}
+use Rattle.tool_run.proofs.Writing.{Writes-same}
+use Rattle.tool_records.specs.declared.walking.WalkEnd.TheVariants as walks
+use Rattle.tool_records.specs.Keeping.{StopsKeeping}
+use Rattle.tool_records.specs.Walk.{Walks, WalksToEnd}
+use Rattle.tool_records.proofs.HeldNumbers.{numbers_of, AreHeld-numbers}
+use Rattle.tool_records.proofs.KeptItems.{packets_of-within}
+use Rattle.tool_records.proofs.KeptWalks.{EndsAs, keeping_promise, Attempts-ended, Attempts-unwritten}
+use Rattle.tool_sink.specs.Answers.{answer_line, answer_status}
+use Rattle.tool_sink.specs.Sink.{IsSinkEnding, answer_ending, answer_output, sink_promise}
+use Rattle.tool_sink.specs.Check.{IsCheckEnding, answer_text, check_ending, check_output, check_promise}
+use Rattle.tool_sink.specs.declared.receiving.Intake.{Intake}
+use Rattle.tool_sink.specs.steps.Lines.{held_lines}
+use Rattle.tool_sink.specs.steps.Receiving.{Receives, StandsForAll}
+use Rattle.tool_sink.specs.steps.Reception.{stopping_promise}
+use Rattle.tool_sink.specs.steps.Telling.{CannotTell, IsFileEnding, IsListEnding, Tells, TellsAs}
+use Rattle.tool_sink.proofs.CheckLines.{held_lines-numbers}
+use Rattle.tool_sink.proofs.ReceivedInputs.{kept_few}
+
+-- ---- the input isn't taken whole
+
+begun_wider : (ends : List ℕ → Ending → Type 0) → ((input : List ℕ) (ending : Ending) → StopsKeeping input ending → ends input ending)
+    → (input part : List ℕ) → IsBegun StopsKeeping input part → IsBegun ends input part
+begun_wider ends stopping input part (inl e) = inl e
+begun_wider ends stopping input part (inr f) =
+    inr (record { ending = f.ending; is_ending = stopping input f.ending f.is_ending; front = f.front })
+
+wider_as : (ends : List ℕ → Ending → Type 0) → ((input : List ℕ) (ending : Ending) → StopsKeeping input ending → ends input ending)
+    → (input : List ℕ) (start now : Ends) (result : Result Finish Stop) → AttemptsAs stopping_promise input start now result
+    → AttemptsAs (keeping_promise ends) input start now result
+wider_as ends stopping input start now (Ok finish) a = record {
+  ending = a.ending;
+  is_ending = stopping input a.ending a.is_ending;
+  status_is = a.status_is;
+  of_ending = a.of_ending;
+  line_is = a.line_is;
+  read = a.read;
+  input_fault = a.input_fault;
+  output = a.output;
+  output_fault = a.output_fault;
+}
+wider_as ends stopping input start now (Err stops.ReadFault) a = record {
+  input_fault = a.input_fault;
+  output = record { part = a.output.part; is_part = a.output.is_part; written = a.output.written };
+  output_fault = a.output_fault;
+}
+wider_as ends stopping input start now (Err stops.WriteFault) a = record {
+  input_fault = a.input_fault;
+  output = record {
+    part = a.output.part;
+    is_part = begun_wider ends stopping input a.output.part a.output.is_part;
+    written = a.output.written;
+  };
+  output_fault = a.output_fault;
+}
+wider_as ends stopping input start now (Err stops.Memory) a = record {
+  input_fault = a.input_fault;
+  output = record {
+    part = a.output.part;
+    is_part = begun_wider ends stopping input a.output.part a.output.is_part;
+    written = a.output.written;
+  };
+  output_fault = a.output_fault;
+}
+
+wider : (ends : List ℕ → Ending → Type 0) → ((input : List ℕ) (ending : Ending) → StopsKeeping input ending → ends input ending)
+    → (start now : Ends) (result : Result Finish Stop) → Attempts stopping_promise start now result
+    → Attempts (keeping_promise ends) start now result
+wider ends stopping start now result a =
+    record { input = a.input; told = a.told; read = a.read; as_far = wider_as ends stopping a.input start now result a.as_far }
+
+-- so a command ends that has further endings where the input is taken whole
+pub sink-stopped : (both : Bool) (start now : Ends) (result : Result Finish Stop) → Attempts stopping_promise start now result
+    → Attempts (sink_promise both) start now result
+sink-stopped both start now result a = wider (IsSinkEnding both) (λ input ending stops. inr stops) start now result a
+
+pub check-stopped : (start now : Ends) (result : Result Finish Stop) → Attempts stopping_promise start now result
+    → Attempts check_promise start now result
+check-stopped start now result a = wider IsCheckEnding (λ input ending stops. inr stops) start now result a
+
+-- ---- an ending was told, or could not be
+
+cut_short : (is : Ending → Type 0) (x y : OutputState) (stop : Stop) → CannotTell is x y stop → TellsAs is x y (Err stop)
+cut_short is x y stops.Memory h = inr h
+cut_short is x y stops.ReadFault h = h
+cut_short is x y stops.WriteFault h = h
+
+-- what a `?` returns that passes on that the ending could not be told
+pub TellsAs-cut_short : (is : Ending → Type 0) (x y : OutputState) (stop : Stop) (result : Result Finish Stop)
+    → IsErrAnd result (λ e. e ≡ stop) → CannotTell is x y stop → TellsAs is x y result
+TellsAs-cut_short is x y stop result is_err h =
+    let e = err_from_is_err_and result is_err in
+    subst (λ (r : Result Finish Stop). TellsAs is x y r) (sym e.1)
+    (subst (λ (s : Stop). TellsAs is x y (Err s)) (sym e.2) (cut_short is x y stop h))
+
+-- the line of an answer, whose counts are those of the packets
+line_of_counts : (name line : List ℕ) (packets : List Packet) (received kept : ℕ) (answer : Answer) → received ≡ length packets
+    → kept ≡ kept_count packets → line ≡ answer_line name received kept answer
+    → line ≡ answer_line name (length packets) (kept_count packets) answer
+line_of_counts name line packets received kept answer all new is =
+    is ∙ ap (λ (n : ℕ). answer_line name n kept answer) all
+    ∙ ap (λ (n : ℕ). answer_line name (length packets) n answer) new
+
+-- an answer was written
+pub Tells-file : (both : Bool) (session : SessionData) (packets : List Packet) (answer : Answer) (x y : OutputState) (finish : Finish)
+    (received kept : ℕ) → IsRightAnswer session packets answer → received ≡ length packets → kept ≡ kept_count packets
+    → finish.status ≡ answer_status answer → string_bytes finish.line ≡ answer_line (codes "sink") received kept answer
+    → Writes x y (answer_output both answer) None → Tells (IsFileEnding both session packets) x y finish
+Tells-file both session packets answer x y finish received kept right all new status line written = record {
+  ending = answer_ending both packets answer;
+  is_ending = record { answer = answer; right = right; ending_is = refl };
+  status = status;
+  line = line_of_counts (codes "sink") (string_bytes finish.line) packets received kept answer all new line;
+  written = written;
+}
+
+pub CannotTell-file : (both : Bool) (session : SessionData) (packets : List Packet) (answer : Answer) (x y : OutputState) (stop : Stop)
+    → IsRightAnswer session packets answer → Writes x y (answer_output both answer) (Some stop)
+    → CannotTell (IsFileEnding both session packets) x y stop
+CannotTell-file both session packets answer x y stop right written = record {
+  ending = answer_ending both packets answer;
+  is_ending = record { answer = answer; right = right; ending_is = refl };
+  written = written;
+}
+
+-- the lines of what a decoder holds, and of an answer
+abbrev lines_with : SessionData → HeldData → Answer → List ℕ
+lines_with session held answer = held_lines session held.batches ++ answer_text answer
+
+lines_told : (session : SessionData) (packets : List Packet) (held : HeldData) (answer : Answer) → HoldsFor packets held
+    → check_output session packets (numbers_of held.batches) answer ≡ lines_with session held answer
+lines_told session packets held answer holds =
+    ap (λ (lines : List ℕ). lines ++ answer_text answer) (sym (held_lines-numbers session packets held holds))
+
+list_ending : (session : SessionData) (packets : List Packet) (held : HeldData) (answer : Answer) → HoldsFor packets held
+    → IsRightAnswer session packets answer
+    → IsListEnding session packets (check_ending session packets (numbers_of held.batches) answer)
+list_ending session packets held answer holds right = record {
+  numbers = numbers_of held.batches;
+  held = AreHeld-numbers packets held holds;
+  answer = answer;
+  right = right;
+  ending_is = refl;
+}
+
+-- lines were written
+pub Tells-list : (session : SessionData) (packets : List Packet) (held : HeldData) (answer : Answer) (x y : OutputState) (finish : Finish)
+    (lines : List ℕ) (received kept : ℕ) → HoldsFor packets held → IsRightAnswer session packets answer → received ≡ length packets
+    → kept ≡ kept_count packets → lines ≡ held_lines session held.batches ++ answer_text answer → finish.status ≡ answer_status answer
+    → string_bytes finish.line ≡ answer_line (codes "check") received kept answer → Writes x y lines None
+    → Tells (IsListEnding session packets) x y finish
+Tells-list session packets held answer x y finish lines received kept holds right all new lines_are status line written = record {
+  ending = check_ending session packets (numbers_of held.batches) answer;
+  is_ending = list_ending session packets held answer holds right;
+  status = status;
+  line = line_of_counts (codes "check") (string_bytes finish.line) packets received kept answer all new line;
+  written = Writes-same (lines_told session packets held answer holds ∙ sym lines_are) written;
+}
+
+pub CannotTell-list : (session : SessionData) (packets : List Packet) (held : HeldData) (answer : Answer) (x y : OutputState) (stop : Stop)
+    (lines : List ℕ) → HoldsFor packets held → IsRightAnswer session packets answer
+    → lines ≡ held_lines session held.batches ++ answer_text answer → Writes x y lines (Some stop)
+    → CannotTell (IsListEnding session packets) x y stop
+CannotTell-list session packets held answer x y stop lines holds right lines_are written = record {
+  ending = check_ending session packets (numbers_of held.batches) answer;
+  is_ending = list_ending session packets held answer holds right;
+  written = Writes-same (lines_told session packets held answer holds ∙ sym lines_are) written;
+}
+
+-- what may be told once the whole input was received
+record IsWholeEnding (ends : List ℕ → Ending → Type 0) (input : List ℕ) (ending : Ending) : Type 0 where
+  is_ending : ends input ending
+  of_ending : IsOfEnding ending.status
+  reach : ending.reach ≡ to_end
+
+module _ (ends : List ℕ → Ending → Type 0) (intake : Intake) (start now : Ends) (w : WalksToEnd (Receives (Some intake)) start now) where
+  told : (after : OutputState) (ending : Ending) (result : Result Finish Stop) → IsWholeEnding ends w.input ending
+      → EndsAs ending now.output after result → Attempts (keeping_promise ends) start (record { input = now.input; output = after }) result
+  told after ending result whole done =
+      let stands : StandsForAll w.session w.list intake = w.given.as_far in
+      Attempts-ended ends (Receives (Some intake)) start now after ending result w stands.few w.given.nothing_written whole.is_ending
+      whole.of_ending (subst (λ (r : Reach). HasRead r start.input.left now.input.left) (sym whole.reach) w.end) done
+
+  unknown : (after : OutputState) → after ≡ now.output
+      → Attempts (keeping_promise ends) start (record { input = now.input; output = after }) (Err stops.Memory)
+  unknown after same =
+      let walked : Walks (Receives (Some intake)) start now (Ok walks.Whole) = record { as_far = w } in
+      subst (λ (o : OutputState). Attempts (keeping_promise ends) start (record { input = now.input; output = o }) (Err stops.Memory)) (sym same)
+      (Attempts-unwritten ends start now (kept_few (Some intake) start now (Ok walks.Whole) walked))
+
+  told_as : (is : Ending → Type 0) → ((ending : Ending) → is ending → IsWholeEnding ends w.input ending) → (after : OutputState)
+      (result : Result Finish Stop) → TellsAs is now.output after result
+      → Attempts (keeping_promise ends) start (record { input = now.input; output = after }) result
+  told_as is whole after (Ok finish) t = told after t.ending (Ok finish) (whole t.ending t.is_ending) (t.status, t.line, t.written)
+  told_as is whole after (Err stops.Memory) (inl same) = unknown after same
+  told_as is whole after (Err stops.Memory) (inr t) = told after t.ending (Err stops.Memory) (whole t.ending t.is_ending) t.written
+  told_as is whole after (Err stops.WriteFault) t = told after t.ending (Err stops.WriteFault) (whole t.ending t.is_ending) t.written
+  told_as is whole after (Err stops.ReadFault) t = told after t.ending (Err stops.ReadFault) (whole t.ending t.is_ending) t.written
+
+-- ---- what is told of the packets of the whole input
+
+is_of_answer : (answer : Answer) → IsOfEnding (answer_status answer)
+is_of_answer (File file) = tt
+is_of_answer Inconsistent = tt
+is_of_answer (NeedMore at_symbol first second) = tt
+
+-- the packets are counted whole, since there are no more than records
+counted : (n m k : ℕ) → k ≡ min n (2 ^ 64 - 1) → n ≤ m → m ≤ most_records → k ≡ n
+counted n m k e h f = omega arith
+
+module _ (intake : Intake) (start now : Ends) (w : WalksToEnd (Receives (Some intake)) start now) where
+  all_counted : intake.decoder.packets ≡ length (packets_of w.list)
+  all_counted =
+      let stands : StandsForAll w.session w.list intake = w.given.as_far in
+      counted (length (packets_of w.list)) (length w.list) intake.decoder.packets stands.stands.counted (packets_of-within w.list) w.file.few
+
+  file_whole : (both : Bool) (ending : Ending) → IsFileEnding both intake.decoder.held.session (packets_of w.list) ending
+      → IsWholeEnding (IsSinkEnding both) w.input ending
+  file_whole both ending is =
+      let stands : StandsForAll w.session w.list intake = w.given.as_far in
+      record {
+        is_ending = inl (record {
+          session = w.session;
+          list = w.list;
+          file = w.file;
+          few = stands.few;
+          answer = is.answer;
+          right = subst (λ (s : SessionData). IsRightAnswer s (packets_of w.list) is.answer) stands.held_session is.right;
+          ending_is = is.ending_is;
+        });
+        of_ending = subst (λ (e : Ending). IsOfEnding e.status) (sym is.ending_is) (is_of_answer is.answer);
+        reach = ap (λ (e : Ending). e.reach) is.ending_is;
+      }
+
+  list_whole : (ending : Ending) → IsListEnding intake.session (packets_of w.list) ending → IsWholeEnding IsCheckEnding w.input ending
+  list_whole ending is =
+      let stands : StandsForAll w.session w.list intake = w.given.as_far in
+      record {
+        is_ending = inl (record {
+          session = w.session;
+          list = w.list;
+          file = w.file;
+          few = stands.few;
+          numbers = is.numbers;
+          held = is.held;
+          answer = is.answer;
+          right = subst (λ (s : SessionData). IsRightAnswer s (packets_of w.list) is.answer) stands.session_is is.right;
+          ending_is = subst (λ (s : SessionData). ending ≡ check_ending s (packets_of w.list) is.numbers is.answer) stands.session_is is.ending_is;
+        });
+        of_ending = subst (λ (e : Ending). IsOfEnding e.status) (sym is.ending_is) (is_of_answer is.answer);
+        reach = ap (λ (e : Ending). e.reach) is.ending_is;
+      }
+
+  pub sink-told : (both : Bool) (after : OutputState) (result : Result Finish Stop)
+      → ((packets : List Packet) → StandsFor packets intake.decoder → intake.decoder.packets ≡ length packets
+      → TellsAs (IsFileEnding both intake.decoder.held.session packets) now.output after result)
+      → Attempts (sink_promise both) start (record { input = now.input; output = after }) result
+  sink-told both after result tells =
+      let stands : StandsForAll w.session w.list intake = w.given.as_far in
+      told_as (IsSinkEnding both) intake start now w (IsFileEnding both intake.decoder.held.session (packets_of w.list)) (file_whole both) after result
+      (tells (packets_of w.list) stands.stands all_counted)
+
+  pub check-told : (after : OutputState) (result : Result Finish Stop)
+      → ((packets : List Packet) → StandsFor packets intake.decoder → intake.decoder.packets ≡ length packets
+      → intake.decoder.held.session ≡ intake.session → TellsAs (IsListEnding intake.session packets) now.output after result)
+      → Attempts check_promise start (record { input = now.input; output = after }) result
+  check-told after result tells =
+      let stands : StandsForAll w.session w.list intake = w.given.as_far in
+      told_as IsCheckEnding intake start now w (IsListEnding intake.session (packets_of w.list)) list_whole after result
+      (tells (packets_of w.list) stands.stands all_counted (stands.held_session ∙ sym stands.session_is))

@@ -1,0 +1,30 @@
+-- How an input was received.
+use Rattle.std.specs.Prelude.{◌≡◌, [], Some, Result, Ok, Err}
+use Rattle.tool_run.specs.declared.stop.Stop.{Stop}
+use Rattle.tool_run.specs.Attempt.{Attempts}
+use Rattle.tool_run.specs.Promise.{Promise, IsBegun}
+use Rattle.tool_run.specs.Streams.{Ends}
+use Rattle.tool_records.specs.Keeping.{StopsKeeping, takes_few}
+use Rattle.tool_records.specs.ReadsRecords.{ReadsRecords}
+use Rattle.tool_records.specs.Walk.{WalksToEnd}
+use Rattle.tool_sink.specs.declared.receiving.Reception.{Reception}
+use Rattle.tool_sink.specs.declared.receiving.Reception.TheVariants as receptions
+use Rattle.tool_sink.specs.steps.Receiving.{Receives}
+
+-- what each command promises of an input that it doesn't take whole
+abbrev pub stopping_promise : Promise
+stopping_promise = record {
+  ends = StopsKeeping;
+  reads = ReadsRecords takes_few;
+  partly = IsBegun StopsKeeping;
+  partly_read = λ before after part. part ≡ [];
+}
+
+-- the whole input was received, or it isn't taken whole and the run ends so, or it was cut short
+abbrev pub ReceivesAllAs : Ends → Ends → Result Reception Stop → Type 0
+ReceivesAllAs start now (Ok (receptions.Whole intake)) = WalksToEnd (Receives (Some intake)) start now
+ReceivesAllAs start now (Ok (receptions.Ended finish)) = Attempts stopping_promise start now (Ok finish)
+ReceivesAllAs start now (Err stop) = Attempts stopping_promise start now (Err stop)
+
+pub record ReceivesAll (start now : Ends) (result : Result Reception Stop) : Type 0 where
+  pub as_far : ReceivesAllAs start now result
