@@ -11,11 +11,11 @@ use Rattle.hex.specs.Hex.{decode_sized}
 use Rattle.hex.specs.declared.error.FromHexError.{FromHexError}
 use Rattle.hex.proofs.HexLemmas.{decode_sized-ok, decode_sized-twice, decode_of-ok}
 use Rattle.bats_words.specs.declared.command.Command.{Command}
-use Rattle.bats_words.specs.declared.command.Command.TheVariants.{Source, Relay, Sink, Show}
+use Rattle.bats_words.specs.declared.command.Command.TheVariants.{Source, Relay, Sink, Check, Show}
 use Rattle.bats_words.specs.Options.{IsSeed, InRanges}
 use Rattle.bats_words.specs.WordItems.{KnownNames, read_items, value_of, is_there}
 use Rattle.bats_words.specs.WordValues.{number_in, is_number_word, rule_of, seed_of}
-use Rattle.bats_words.specs.Words.{command_of, read_by, read_or, source_of, source_names, relay_of, relay_names, sink_of, sink_names, show_of, show_names}
+use Rattle.bats_words.specs.Words.{command_of, read_by, read_or, source_of, source_names, relay_of, relay_names, sink_of, sink_names, check_of, check_names, show_of, show_names}
 use Rattle.bats_words.proofs.CommandWords.{Builder}
 
 -- ---- values
@@ -110,6 +110,14 @@ sink_of-ranges value flag command h =
     let r = read_or-range 1 1 64 workers (value (codes "--workers")) (omega arith) (omega arith) workers_is in
     subst (λ (c : Command). InRanges c) same (record { low = r.0; high = r.1 }))
 
+pub check_of-ranges : IsWithin check_of
+unfolding check_of
+check_of-ranges value flag command h =
+    option_and_then_some _ (read_or 1 (number_in 1 64) (value (codes "--workers"))) command h (λ workers workers_is rest.
+    let same : Check workers ≡ command = cc in
+    let r = read_or-range 1 1 64 workers (value (codes "--workers")) (omega arith) (omega arith) workers_is in
+    subst (λ (c : Command). InRanges c) same (record { low = r.0; high = r.1 }))
+
 pub show_of-ranges : IsWithin show_of
 unfolding show_of
 show_of-ranges value flag command h =
@@ -146,4 +154,5 @@ command_of-ranges (name ∷ words) command h =
     by_choice _ _ _ command (read_by-ranges source_names source_of source_of-ranges words command) (
     by_choice _ _ _ command (read_by-ranges relay_names relay_of relay_of-ranges words command) (
     by_choice _ _ _ command (read_by-ranges sink_names sink_of sink_of-ranges words command) (
-    by_choice _ _ _ command (read_by-ranges show_names show_of show_of-ranges words command) (no_command command)))) h
+    by_choice _ _ _ command (read_by-ranges check_names check_of check_of-ranges words command) (
+    by_choice _ _ _ command (read_by-ranges show_names show_of show_of-ranges words command) (no_command command))))) h

@@ -3,7 +3,7 @@ use Rattle.std.proofs.Common.{◌≡◌, ℕ, Bool, true, false, List, Option, S
 use Rattle.std.specs.Option.{option_and_then}
 use Rattle.bats_words.specs.WordItems.{KnownNames, Item, is_among, items_of, read_items, value_of, is_there}
 use Rattle.bats_words.specs.WordLookup.{word_after}
-use Rattle.bats_words.specs.Words.{read_by, source_of, source_names, relay_of, relay_names, sink_of, sink_names, show_of, show_names}
+use Rattle.bats_words.specs.Words.{read_by, source_of, source_names, relay_of, relay_names, sink_of, sink_names, check_of, check_names, show_of, show_names}
 use Rattle.bats_words.specs.declared.command.Command.{Command}
 use Rattle.bats_words.proofs.WordLookups.{some_of, none_of, items_of-read, value_of-items, is_there-items}
 
@@ -61,6 +61,10 @@ sink_of-items words items e =
       value_of-items sink_names (codes "--workers") refl refl words items e,
       is_there-items sink_names (codes "--both") refl words items e,
     )
+
+pub check_of-items : (words : List (List ℕ)) (items : List Item) → items_of check_names words ≡ Some items → of_words check_of words ≡ of_items check_of items
+unfolding check_of
+check_of-items words items e = rw (value_of-items check_names (codes "--workers") refl refl words items e)
 
 pub show_of-items : (words : List (List ℕ)) (items : List Item) → items_of show_names words ≡ Some items → of_words show_of words ≡ of_items show_of items
 unfolding show_of

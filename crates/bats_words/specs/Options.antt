@@ -39,4 +39,5 @@ InRanges (commands.Source m t table systematic seed first batches) =
     HasRanges (source_options m t table systematic seed first batches) × IsSeed seed
 InRanges (commands.Relay seed extra count) = HasCount count × IsSeed seed
 InRanges (commands.Sink workers both) = HasWorkers workers
+InRanges (commands.Check workers) = HasWorkers workers
 InRanges commands.Show = Unit {0}

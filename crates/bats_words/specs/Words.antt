@@ -5,7 +5,7 @@ use Rattle.std.specs.Str.{bytes_eq}
 use Rattle.bats_words.specs.WordItems.{KnownNames, read_items, value_of, is_there}
 use Rattle.bats_words.specs.WordValues.{number_in, rule_of, seed_of}
 use Rattle.bats_words.specs.declared.command.Command.{Command}
-use Rattle.bats_words.specs.declared.command.Command.TheVariants.{Source, Relay, Sink, Show}
+use Rattle.bats_words.specs.declared.command.Command.TheVariants.{Source, Relay, Sink, Check, Show}
 
 -- the second step, if the first gave a value
 infixl 10 ◌>>=◌
@@ -70,6 +70,18 @@ sink_of value flag = do
   workers ← read_or 1 (number_in 1 64) (value (codes "--workers"))
   Some (Sink workers (flag (codes "--both")))
 
+-- ---- check
+
+-- the names of `check`
+abbrev pub check_names : KnownNames
+check_names = record { options = codes "--workers" ∷ []; flags = [] }
+
+-- The command `check`: how many workers, 1 where the option is not there.
+unfoldable pub check_of : (List ℕ → Option (List ℕ)) → (List ℕ → Bool) → Option Command
+check_of value flag = do
+  workers ← read_or 1 (number_in 1 64) (value (codes "--workers"))
+  Some (Check workers)
+
 -- ---- show
 
 -- `show` has no names
@@ -89,5 +101,6 @@ command_of (name ∷ words) =
     if bytes_eq name (codes "source") then read_by source_names source_of words
     else if bytes_eq name (codes "relay") then read_by relay_names relay_of words
     else if bytes_eq name (codes "sink") then read_by sink_names sink_of words
+    else if bytes_eq name (codes "check") then read_by check_names check_of words
     else if bytes_eq name (codes "show") then read_by show_names show_of words
     else None

@@ -36,6 +36,11 @@ pub enum Command {
         /// Whether both files are written where two agree.
         both: bool,
     },
+    /// Says what the packets that are read give: a line for each held batch, and one for the answer.
+    Check {
+        /// How many workers share the solving, 1 to 64.
+        workers: u32,
+    },
     /// Writes a line for each record that is read.
     Show,
 }

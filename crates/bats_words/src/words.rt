@@ -1,10 +1,11 @@
 //! Which command the words of a command line are.
-ghost use Rattle.std.specs.Prelude.{◌≡◌, map, string_bytes, IfSome};
+ghost use Rattle.std.specs.Prelude.{◌≡◌, map, string_bytes, codes, IfSome};
 ghost use Rattle.bats_words.specs.Options.{InRanges};
 ghost use Rattle.bats_words.specs.WordItems.{is_among};
 ghost use Rattle.bats_words.specs.WordLookup.{word_after};
-ghost use Rattle.bats_words.specs.Words.{command_of, read_by, source_of, source_names, relay_of, relay_names};
-ghost use Rattle.bats_words.specs.Words.{sink_of, sink_names, show_of, show_names};
+ghost use Rattle.bats_words.specs.WordValues.{number_in};
+ghost use Rattle.bats_words.specs.Words.{command_of, read_by, read_or, source_of, source_names, relay_of, relay_names};
+ghost use Rattle.bats_words.specs.Words.{sink_of, sink_names, check_of, check_names, show_of, show_names};
 
 mod items;
 mod options;
@@ -25,6 +26,7 @@ pub fn parse(words: &Vec<String>) -> Option<Command>
         "source" => source(rest),
         "relay" => relay(rest),
         "sink" => sink(rest),
+        "check" => check(rest),
         "show" => show(rest),
         _ => None,
     }
@@ -99,6 +101,14 @@ fn relay_of(words: &[String]) -> Option<Command>
     })
 }
 
+// The number of workers, 1 where the option is not there.
+fn workers(words: &[String]) -> Option<u32>
+    ensures { result ≡ read_or 1 (number_in 1 64) (word_after (codes "--workers") (map string_bytes words.now)) }
+{
+    let workers = number_or(1, "--workers", words, 1, 64)?;
+    Some(workers as u32)
+}
+
 // The names of `sink`.
 const SINK: Names = Names {
     options: &["--workers"],
@@ -120,11 +130,36 @@ fn sink_of(words: &[String]) -> Option<Command>
     ensures { let texts = map string_bytes words.now in
         result ≡ sink_of (λ name. word_after name texts) (is_among texts) }
 {
-    let workers = number_or(1, "--workers", words, 1, 64)?;
+    let workers = workers(words)?;
     Some(Command::Sink {
-        workers: workers as u32,
+        workers,
         both: has("--both", words),
     })
+}
+
+// The names of `check`.
+const CHECK: Names = Names {
+    options: &["--workers"],
+    flags: &[],
+};
+
+fn check(words: &[String]) -> Option<Command>
+    ensures { result ≡ read_by check_names check_of (map string_bytes words.now) }
+{
+    if !are_read(&CHECK, words) {
+        return None;
+    }
+    check_of(words)
+}
+
+// The command of words that are options of `check`, none of them twice.
+#[tactic(auto, unfolding(crate::specs::Words::check_of))]
+fn check_of(words: &[String]) -> Option<Command>
+    ensures { let texts = map string_bytes words.now in
+        result ≡ check_of (λ name. word_after name texts) (is_among texts) }
+{
+    let workers = workers(words)?;
+    Some(Command::Check { workers })
 }
 
 // `show` has no names.
@@ -227,7 +262,7 @@ mod tests {
     }
 
     #[test]
-    fn reads_relay_sink_and_show(rt: HostRuntime) -> Result<(), Fail> {
+    fn reads_relay_sink_check_and_show(rt: HostRuntime) -> Result<(), Fail> {
         for (line, workers, both) in [
             ("sink", 1, false),
             ("sink --workers 1", 1, false),
@@ -256,6 +291,17 @@ mod tests {
             let seed = SEED;
             let want = Command::Relay { seed, extra, count };
             assert_eq!(rt; parsed(&rt, line)?, Some(want), "at {line}");
+        }
+        for (line, workers) in [
+            ("check", 1),
+            ("check --workers 1", 1),
+            ("check --workers 064", 64),
+        ] {
+            assert_eq!(rt;
+                parsed(&rt, line)?,
+                Some(Command::Check { workers }),
+                "at {line}"
+            );
         }
         assert_eq!(rt; parsed(&rt, "show")?, Some(Command::Show));
         Ok(())
@@ -327,7 +373,7 @@ mod tests {
             "relay --seed 00112233445566778899aabbccddeeff --rule fixe --count 1",
             "relay --seed 00112233445566778899aabbccddeeff --rule fixed extra --count 1",
             "relay --seed 00112233445566778899aabbccddeeff --rule fixed --count 1 --both",
-            // Other words of `sink`, and words after `show`.
+            // Other words of `sink` and `check`, and words after `show`.
             "sink --workers",
             "sink --workers --both",
             "sink --workers 0",
@@ -338,6 +384,13 @@ mod tests {
             "sink --both 2",
             "sink x",
             "sink --m 2",
+            "check --both",
+            "check --workers",
+            "check --workers 0",
+            "check --workers 65",
+            "check --workers 2 --workers 2",
+            "check 2",
+            "checks",
             "show --both",
             "show x",
             "show ",
