@@ -9,15 +9,17 @@ use Rattle.std.proofs.lemmas.Grind.{same_number_lists, div_ceil_times}
 use Rattle.std.proofs.lemmas.Nat.{div-add-mod', mul-le}
 use Rattle.std.proofs.Math.Nat.{mod-lt}
 use Rattle.bats_model.specs.Bytes.{AreBytes}
-use Rattle.bats_model.specs.Session.{SessionData, IsSession, symbols_of}
+use Rattle.bats_model.specs.Session.{SessionData, IsSession, symbols_of, max_symbols}
 use Rattle.bats_model.specs.Symbol.{symbol_byte}
 use Rattle.bats_model.specs.Plain.{IsPlain, IsUnitAt}
 use Rattle.bats_model.specs.Coded.{unit_vector}
-use Rattle.bats_model.specs.PacketFile.{IsPacketFile, packets_of}
+use Rattle.bats_model.specs.Kept.{kept_count}
+use Rattle.bats_model.specs.PacketFile.{HasShape, IsPacketFile, packets_of}
 use Rattle.bats_model.specs.Agreement.{Agrees, AgreesWithAll}
 use Rattle.bats_model.specs.RightAnswer.{IsOnlyFile}
 use Rattle.bats_model.specs.declared.packet.Packet.{Packet}
 use Rattle.bats_model.specs.declared.item.Item.{Item}
+use Rattle.bats_model.proofs.KeptSpans.{HasVector}
 use Rattle.bats_model.proofs.PlainAgreement.{Agrees-plain}
 use Rattle.bats_model.proofs.SystematicBatches.{is_systematic_batch-within}
 use Rattle.bats_model.proofs.UnitVectors.{length-unit_vector}
@@ -28,10 +30,13 @@ use Rattle.tool_source.specs.FileSession.{session_for}
 use Rattle.tool_run.specs.Ending.{Ending}
 use Rattle.tool_source.specs.Source.{source_ending}
 use Rattle.tool_sink.specs.Sink.{IsSinkEnding}
-use Rattle.tool_source.proofs.Counts.{length-within, length-beyond}
-use Rattle.tool_laws.proofs.SentPackets.{Sends, sent_packet, batch_packets, sent_packets, packets_for, All-sent, file_for}
+use Rattle.bats_batch.specs.Held.{max_kept}
+use Rattle.tool_source.proofs.Counts.{length-within}
+use Rattle.tool_laws.proofs.SentPackets.{Sends, sent_packet, batch_packets, sent_packets, packets_for, shapes_for, count-sent, file_for}
 use Rattle.tool_laws.specs.GivesBack.{GivesBack}
+use Rattle.tool_laws.proofs.FewKept.{few_among}
 use Rattle.tool_laws.proofs.GivenBack.{sent_of, AgreesWithAll-among, gives_back_among}
+use Rattle.tool_laws.proofs.RelayedFiles.{shapes_from}
 
 -- ---- the packets that are sent
 
@@ -139,6 +144,13 @@ pub record SendsAllOnce (o : SourceOptions) (file : List ℕ) : Type 0 where
   pub first : o.first ≡ 0
   pub batches : o.batches ≡ div_ceil (symbols_of (session_for o (length file))) o.m
 
+-- rounded up to whole batches
+rounded_up : (symbols m batches : ℕ) → 0 < m → symbols ≤ max_symbols → batches ≡ div_ceil symbols m → batches * m < max_symbols + m
+rounded_up symbols m batches some most is =
+    let up : div_ceil symbols m * m < symbols + m = (div_ceil_times symbols m some).1 in
+    let same : batches * m ≡ div_ceil symbols m * m = ap (λ (x : ℕ). x * m) is in
+    omega (arith, up, same, most)
+
 Covers-sent : (o : SourceOptions) (file : List ℕ) (sent : List Item) (packets : List Packet) → HasRanges o → AreBytes file → SendsAllOnce o file
     → IsPacketFile (session_for o (length file)) sent (source_ending o file).output
     → All (Contains packets) (packets_of sent) → Covers (session_for o (length file)) file packets
@@ -156,24 +168,27 @@ Covers-sent o file sent packets ranges bytes once k covers =
           (Contains-sent session file o.first o.batches number j (omega (arith, once.first)) (omega arith) column);
     }
 
-plain_among : (o : SourceOptions) (file : List ℕ) (sent : List Item) (packets : List Packet) → HasRanges o → AreBytes file → SendsAllOnce o file
+-- so few packets are sent that all of them may be kept
+few_sent : (o : SourceOptions) (file : List ℕ) (sent : List Item) (packets : List Packet) → HasRanges o → AreBytes file → SendsAllOnce o file
     → IsPacketFile (session_for o (length file)) sent (source_ending o file).output
-    → All (Contains (packets_of sent)) packets → All (IsPlain (session_for o (length file))) packets
-plain_among o file sent packets ranges bytes once k among =
+    → All (HasShape (session_for o (length file))) packets → All (Contains (packets_of sent)) packets → kept_count packets ≤ max_kept
+few_sent o file sent packets ranges bytes once k shapes among =
     let session = session_for o (length file) in
-    let plain : All (IsPlain session) (packets_for o file) =
-    All-sent (IsPlain session) session file o.first o.batches (λ number j low high column.
-    IsPlain-sent session file number j once.systematic
-    (length-beyond (symbols_of session) o.m number (omega (arith, ranges.m_low)) (omega (arith, once.first, once.batches))) column) in
-    All-weaker (Contains (packets_of sent)) (IsPlain session)
-    (λ packet there. All-contains (IsPlain session) (packets_for o file) packet plain
-    (subst (λ (x : List Packet). Contains x packet) (sent_of o file sent ranges bytes k) there)) packets among
+    let vectors : (list : List Packet) → All (HasShape session) list → All (HasVector session.m) list =
+    λ list. All-weaker (HasShape session) (HasVector session.m) (λ p h. record { size = h.coefs; bytes = h.coef_bytes }) list in
+    let all : packets_of sent ≡ packets_for o file = sent_of o file sent ranges bytes k in
+    let chosen : All (Contains (packets_for o file)) packets = subst (λ (xs : List Packet). All (Contains xs) packets) all among in
+    let kept : kept_count packets ≤ length (packets_for o file) =
+    few_among session.m packets (packets_for o file) (vectors packets shapes) (vectors (packets_for o file) (shapes_for o file ranges bytes)) chosen in
+    let count : length (packets_for o file) ≡ o.batches * o.m = count-sent session file o.first o.batches in
+    let most : o.batches * o.m < max_symbols + o.m = rounded_up (symbols_of session) o.m o.batches (omega (arith, ranges.m_low)) k.is_session.symbols once.batches in
+    omega (arith, kept, count, most, ranges.m_high)
 
 is_done : (session : SessionData) (packets : List Packet) (file : List ℕ) (ending : Ending) → GivesBack session packets file ending
-    → IsOnlyFile session packets file → All (IsPlain session) packets → (ending.status ≡ statuses.Done) × (ending.output ≡ file)
-is_done session packets file ending (inl (_, inl h)) only plain = (h.0, h.1)
-is_done session packets file ending (inl (_, inr h)) only plain = absurd (h.1 only)
-is_done session packets file ending (inr h) only plain = absurd (h.1 plain)
+    → IsOnlyFile session packets file → kept_count packets ≤ max_kept → (ending.status ≡ statuses.Done) × (ending.output ≡ file)
+is_done session packets file ending (inl (_, inl h)) only few = (h.0, h.1)
+is_done session packets file ending (inl (_, inr h)) only few = absurd (h.1 only)
+is_done session packets file ending (inr h) only few = absurd (h.1 few)
 
 -- from the packets of all symbols, in any order, the file comes back
 pub comes_back : (o : SourceOptions) (file : List ℕ) (sent list : List Item) (input : List ℕ) (both : Bool) (ending : Ending)
@@ -188,7 +203,7 @@ comes_back o file sent list input both ending ranges bytes once k h among covers
     is_done session (packets_of list) file ending
     (gives_back_among o file sent list input both ending ranges bytes k h among is)
     (IsOnlyFile-covered session file (packets_of list) (Covers-sent o file sent (packets_of list) ranges bytes once k covers) agrees)
-    (plain_among o file sent (packets_of list) ranges bytes once k among)
+    (few_sent o file sent (packets_of list) ranges bytes once k (shapes_from session 0 list h.places) among)
 
 pub output_comes_back : (o : SourceOptions) (file : List ℕ) (both : Bool) (ending : Ending) → Sends o file → SendsAllOnce o file
     → IsSinkEnding both (source_ending o file).output ending → (ending.status ≡ statuses.Done) × (ending.output ≡ file)

@@ -1,22 +1,19 @@
 -- What `sink` gives back of packets with which a file agrees, and of those that `source` sends of it.
-use Rattle.std.proofs.Common.{ℕ, ◌≡◌, ◌⊎◌, ◌∙◌, inl, inr, sym, ap, refl, subst, Bool, false, List, [], ◌∷◌, ◌++◌, length, append-nil, arith}
+use Rattle.std.proofs.Common.{ℕ, ◌≡◌, ◌≤◌, ◌⊎◌, ◌∙◌, inl, inr, sym, ap, refl, subst, Bool, false, List, [], length}
 use Rattle.std.specs.List.{All, Contains}
-use Rattle.std.proofs.lemmas.List.{length-append}
-use Rattle.std.proofs.lemmas.List.Elements.{All-contains, All-weaker, All-contains_itself, Contains-append_left, Contains-push}
+use Rattle.std.proofs.lemmas.List.Elements.{All-contains, All-weaker, All-contains_itself}
 use Rattle.bats_model.specs.Bytes.{AreBytes}
 use Rattle.bats_model.specs.Session.{SessionData}
 use Rattle.bats_model.specs.Symbol.{symbol_byte}
-use Rattle.bats_model.specs.Plain.{IsPlain}
+use Rattle.bats_model.specs.Kept.{kept_count}
 use Rattle.bats_model.specs.PacketFile.{IsPacketFile, packets_of}
 use Rattle.bats_model.specs.Agreement.{Agrees, AgreesWithAll}
 use Rattle.bats_model.specs.RightAnswer.{IsRightAnswer}
 use Rattle.bats_model.specs.declared.packet.Packet.{Packet}
 use Rattle.bats_model.specs.declared.item.Item.{Item}
-use Rattle.bats_model.specs.declared.item.Item.TheVariants as items
 use Rattle.bats_model.specs.declared.answer.Answer.{Answer}
 use Rattle.bats_model.specs.declared.answer.Answer.TheVariants.{File, Inconsistent, NeedMore}
-use Rattle.bats_format.proofs.PacketFiles.{same_file, further_items}
-use Rattle.bats_format.proofs.JoinedFiles.{packets_of-append}
+use Rattle.bats_format.proofs.PacketFiles.{same_file}
 use Rattle.bats_format.proofs.Refusals.{no_file_refused}
 use Rattle.bats_words.specs.declared.source_options.SourceOptions.{SourceOptions}
 use Rattle.tool_run.specs.declared.status.Status.TheVariants as statuses
@@ -24,23 +21,25 @@ use Rattle.bats_words.specs.Options.{HasRanges, IsSeed}
 use Rattle.tool_source.specs.FileSession.{session_for}
 use Rattle.tool_run.specs.Ending.{Ending}
 use Rattle.tool_source.specs.Source.{source_ending, source_promise}
-use Rattle.tool_sink.specs.Sink.{SinkIsNotBuilt, IsSinkEnding, answer_ending}
+use Rattle.bats_batch.specs.Held.{max_kept}
+use Rattle.tool_sink.specs.Sink.{IsSinkEnding, answer_ending}
 use Rattle.tool_laws.specs.GivesBack.{GivesBack}
-use Rattle.tool_laws.proofs.OneReading.{IsRefused-reading}
+use Rattle.tool_records.proofs.RefusedReadings.{IsRefused-reading}
+use Rattle.tool_records.proofs.KeptEndings.{no_stop}
 use Rattle.tool_laws.proofs.SentPackets.{Sends, packets_for, AgreesWithAll-sent, IsFile-for, file_for}
 
 -- ---- packets with which a file agrees
 
 GivesBack-answer : (both : Bool) (session : SessionData) (packets others : List Packet) (file : List ℕ) (answer : Answer)
-    → All (IsPlain session) packets → IsRightAnswer session packets answer → AgreesWithAll session packets file
+    → kept_count packets ≤ max_kept → IsRightAnswer session packets answer → AgreesWithAll session packets file
     → GivesBack session packets file (answer_ending both others answer)
-GivesBack-answer both session packets others file (File f) plain right a =
+GivesBack-answer both session packets others file (File f) few right a =
     let same : f ≡ file = sym (right.only file a) in
-    inl (plain, inl (refl, same, record { agrees = a; only = λ other b. right.only other b ∙ same }))
-GivesBack-answer both session packets others file Inconsistent plain right a = absurd (right.none file a)
-GivesBack-answer both session packets others file (NeedMore s first second) plain right a =
+    inl (few, inl (refl, same, record { agrees = a; only = λ other b. right.only other b ∙ same }))
+GivesBack-answer both session packets others file Inconsistent few right a = absurd (right.none file a)
+GivesBack-answer both session packets others file (NeedMore s first second) few right a =
     inl (
-      plain,
+      few,
       inr (
         refl,
         λ h.
@@ -48,26 +47,6 @@ GivesBack-answer both session packets others file (NeedMore s first second) plai
             right.differ (λ c l. ap (λ (x : List ℕ). symbol_byte session x s c) same),
       ),
     )
-
-packets_push : (list : List Item) (at : ℕ) (packet : Packet) → packets_of (list ++ items.Packet at packet ∷ []) ≡ packets_of list ++ packet ∷ []
-unfolding packets_of
-packets_push list at packet = packets_of-append list (items.Packet at packet ∷ [])
-
--- the packet that can't be taken yet is one of the file's
-not_all_plain : (session : SessionData) (list : List Item) (input : List ℕ) (ending : Ending) → IsPacketFile session list input
-    → SinkIsNotBuilt input ending → All (IsPlain session) (packets_of list) → ⊥
-not_all_plain session list input ending h k plain =
-    let begun : List Item = k.list ++ items.Packet k.at k.packet ∷ [] in
-    let further = further_items k.session session begun list k.front k.rest input [] k.is_front.file h
-    (sym k.is_front.split ∙ sym (append-nil input)) (omega (arith, ap length k.is_front.split, length-append k.front k.rest)) in
-    let split : packets_of list ≡ (packets_of k.list ++ k.packet ∷ []) ++ packets_of further.further =
-    ap packets_of further.items ∙ packets_of-append begun further.further
-    ∙ ap (λ (x : List Packet). x ++ packets_of further.further) (packets_push k.list k.at k.packet) in
-    let there : Contains (packets_of list) k.packet =
-    subst (λ (x : List Packet). Contains x k.packet) (sym split)
-    (Contains-append_left (packets_of k.list ++ k.packet ∷ []) (packets_of further.further) k.packet (Contains-push (packets_of k.list) k.packet)) in
-    k.not_plain (subst (λ (x : SessionData). IsPlain x k.packet) (sym further.same_session)
-    (All-contains (IsPlain session) (packets_of list) k.packet plain there))
 
 pub gives_back : (session : SessionData) (list : List Item) (input file : List ℕ) (both : Bool) (ending : Ending)
     → IsPacketFile session list input → AgreesWithAll session (packets_of list) file → IsSinkEnding both input ending
@@ -77,15 +56,14 @@ gives_back session list input file both ending h a (inl k) =
     let right : IsRightAnswer session (packets_of list) k.answer =
     subst (λ (x : SessionData). IsRightAnswer x (packets_of list) k.answer) (sym same.0)
     (subst (λ (x : List Item). IsRightAnswer k.session (packets_of x) k.answer) (sym same.1) k.right) in
-    let plain : All (IsPlain session) (packets_of list) =
-    subst (λ (x : SessionData). All (IsPlain x) (packets_of list)) (sym same.0)
-    (subst (λ (x : List Item). All (IsPlain k.session) (packets_of x)) (sym same.1) k.plain) in
+    let few : kept_count (packets_of list) ≤ max_kept =
+    subst (λ (x : List Item). kept_count (packets_of x) ≤ max_kept) (sym same.1) k.few in
     subst (GivesBack session (packets_of list) file) (sym k.ending_is)
-    (GivesBack-answer both session (packets_of list) (packets_of k.list) file k.answer plain right a)
+    (GivesBack-answer both session (packets_of list) (packets_of k.list) file k.answer few right a)
 gives_back session list input file both ending h a (inr (inl k)) =
     absurd (no_file_refused session list input k.end h (IsRefused-reading input k.session k.list k.end k.reading))
 gives_back session list input file both ending h a (inr (inr k)) =
-    inr (ap (λ (x : Ending). x.status) k.ending_is, not_all_plain session list input ending h k)
+    inr (ap (λ (x : Ending). x.status) k.ending_is, λ few. no_stop input session list ending h few (inr k))
 
 -- where both files aren't asked for, what isn't done writes nothing
 NoOutput-answer : (others : List Packet) (answer : Answer)
@@ -149,12 +127,12 @@ gives_back_among o file sent list input both ending ranges bytes k h among is =
 abbrev pub IsFileOrNone : List ℕ → Ending → Type 0
 IsFileOrNone file ending =
     ((ending.status ≡ statuses.Done) × (ending.output ≡ file))
-    ⊎ ((ending.status ≡ statuses.NeedMore) ⊎ (ending.status ≡ statuses.NotBuilt))
+    ⊎ ((ending.status ≡ statuses.NeedMore) ⊎ (ending.status ≡ statuses.Limit))
 
 IsFileOrNone-gives : (session : SessionData) (packets : List Packet) (file : List ℕ) (ending : Ending)
     → GivesBack session packets file ending → IsFileOrNone file ending
-IsFileOrNone-gives session packets file ending (inl (plain, inl h)) = inl (h.0, h.1)
-IsFileOrNone-gives session packets file ending (inl (plain, inr h)) = inr (inl h.0)
+IsFileOrNone-gives session packets file ending (inl (few, inl h)) = inl (h.0, h.1)
+IsFileOrNone-gives session packets file ending (inl (few, inr h)) = inr (inl h.0)
 IsFileOrNone-gives session packets file ending (inr h) = inr (inr h.0)
 
 pub output_given_back : (o : SourceOptions) (file : List ℕ) (both : Bool) (ending : Ending) → Sends o file

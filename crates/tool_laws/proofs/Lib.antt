@@ -1,8 +1,9 @@
 mod OneReading
-mod SinkReach
+mod OneAnswer
 mod OneRelay
 mod SentPackets
+mod FewKept
 mod GivenBack
+mod RelayedFiles
 mod AllSymbols
 mod SourceAndSink
-mod RelayedFiles

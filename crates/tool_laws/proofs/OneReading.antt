@@ -1,13 +1,14 @@
 -- What is read of an input is one thing, and so `show` has one ending on it.
 use Rattle.std.proofs.Common.{ℕ, ◌≡◌, ◌∙◌, inl, inr, sym, ap, refl, List, Option, None, Some, arith}
 use Rattle.bats_model.specs.Session.{SessionData}
-use Rattle.bats_model.specs.Refusal.{RefusesRecord, IsRefused}
+use Rattle.bats_model.specs.Refusal.{RefusesRecord}
 use Rattle.bats_model.specs.declared.item.Item.{Item}
 use Rattle.bats_model.specs.declared.read_end.ReadEnd.{ReadEnd}
 use Rattle.bats_format.proofs.PacketFiles.{same_file, same_files}
 use Rattle.bats_format.proofs.Refusals.{refused_once, no_file_refused}
 use Rattle.tool_run.specs.Ending.{Ending}
 use Rattle.tool_records.specs.Reading.{IsReading}
+use Rattle.tool_records.proofs.RefusedReadings.{IsRefused-reading}
 use Rattle.tool_stream.specs.Show.{IsShowEnding, show_ending}
 
 -- what two readings of one input have in common
@@ -26,12 +27,6 @@ same_refused input session other list others end last h k =
     let under = k.longest.longest session list h.front h.rest f in
     let same = same_files session other list others h.front h.rest k.front k.rest f.file g.file (sym f.split ∙ g.split) (omega arith) in
     (same.0, same.1)
-
--- a reading that ends at a refusal is one
-pub IsRefused-reading : (input : List ℕ) (session : Option SessionData) (list : List Item) (end : ReadEnd) → IsReading input session list (Some end)
-    → IsRefused input end
-IsRefused-reading input None list end h = inl h.1
-IsRefused-reading input (Some session) list end h = inr (session, list, h)
 
 same_reading : (input : List ℕ) (session other : Option SessionData) (list others : List Item) (end last : Option ReadEnd)
     → IsReading input session list end → IsReading input other others last → AreSame session other list others end last

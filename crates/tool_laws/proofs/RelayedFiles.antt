@@ -21,14 +21,15 @@ use Rattle.bats_relay.proofs.OutputRows.{batch-output}
 use Rattle.bats_relay.proofs.RelayedPackets.{Agrees-outputs_of, HasShape-outputs_of}
 use Rattle.tool_run.specs.Ending.{Ending}
 use Rattle.tool_run.specs.declared.status.Status.TheVariants as statuses
-use Rattle.tool_stream.specs.Relay.{AreHeld, AreFew, RelaySends, IsRelayEnding, most_outputs, output_count, batch_outputs, sent_packets, relayed_ending}
-use Rattle.tool_laws.proofs.OneReading.{IsRefused-reading}
+use Rattle.tool_records.specs.Keeping.{AreHeld, AreFew}
+use Rattle.tool_stream.specs.Relay.{RelaySends, IsRelayEnding, most_outputs, output_count, batch_outputs, sent_packets, relayed_ending}
+use Rattle.tool_records.proofs.RefusedReadings.{IsRefused-reading}
 use Rattle.tool_laws.proofs.SentPackets.{IsFileOf, file_of}
 
 -- ---- the packets that were taken
 
 -- the packets among items of a session have its shape
-shapes_from : (session : SessionData) (offset : ℕ) (list : List Item) → AreItemsFrom session offset list
+pub shapes_from : (session : SessionData) (offset : ℕ) (list : List Item) → AreItemsFrom session offset list
     → All (HasShape session) (packets_of list)
 unfolding AreItemsFrom packets_of
 shapes_from session offset [] h = All-nil (HasShape session)

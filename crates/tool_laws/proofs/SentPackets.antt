@@ -129,7 +129,7 @@ count_each f m a zero e = omega arith
 count_each f m a (suc n) e =
     omega (arith, length-append (f a) (flat_map f (range_with_len (a + 1) n)), e a, count_each f m (a + 1) n e)
 
-count-sent : (session : SessionData) (file : List ℕ) (first batches : ℕ)
+pub count-sent : (session : SessionData) (file : List ℕ) (first batches : ℕ)
     → length (sent_packets session file first batches) ≡ batches * session.m
 count-sent session file first batches =
     count_each (batch_packets session file) session.m first batches
@@ -209,7 +209,7 @@ IsFile-for o file h = record { size = refl; bytes = h }
 abbrev pub packets_for : SourceOptions → List ℕ → List Packet
 packets_for o file = sent_packets (session_for o (length file)) file o.first o.batches
 
-shapes_for : (o : SourceOptions) (file : List ℕ) → HasRanges o → AreBytes file → All (HasShape (session_for o (length file))) (packets_for o file)
+pub shapes_for : (o : SourceOptions) (file : List ℕ) → HasRanges o → AreBytes file → All (HasShape (session_for o (length file))) (packets_for o file)
 shapes_for o file h bytes =
     All-sent (HasShape (session_for o (length file))) (session_for o (length file)) file o.first o.batches
     (λ number j low high column. HasShape-sent (session_for o (length file)) file number j (omega (arith, h.first_high, h.batches_high)) bytes)

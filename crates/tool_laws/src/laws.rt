@@ -17,6 +17,7 @@ ghost use Rattle.tool_run.specs.Ending.{Ending};
 ghost use Rattle.tool_run.specs.Promise.{reads_nothing};
 ghost use Rattle.tool_source.specs.FileSession.{session_for};
 ghost use Rattle.tool_source.specs.Source.{source_promise};
+ghost use Rattle.tool_sink.specs.Check.{check_promise};
 ghost use Rattle.tool_sink.specs.Sink.{sink_promise};
 ghost use Rattle.tool_stream.specs.Relay.{relay_promise};
 ghost use Rattle.tool_stream.specs.Show.{show_promise};
@@ -33,11 +34,20 @@ pub fn one_ending()
         → (sink_promise both).ends input ending → (sink_promise both).ends input other
         → (ending.status ≡ other.status) × (ending.line ≡ other.line) × (ending.reach ≡ other.reach)
         × ((ending.output ≡ other.output) ⊎ (ending.status ≡ statuses.NeedMore)) }
+    ensures check { (input : List ℕ) (ending other : Ending)
+        → check_promise.ends input ending → check_promise.ends input other → ending ≡ other }
     ensures show { (input : List ℕ) (ending other : Ending)
         → show_promise.ends input ending → show_promise.ends input other → ending ≡ other }
     ensures relay { (seed : List ℕ) (extra : Bool) (count : ℕ) (input : List ℕ) (ending other : Ending)
         → (relay_promise seed extra count).ends input ending → (relay_promise seed extra count).ends input other
         → ending ≡ other }
+{}
+
+/// On one input `check` and `sink` end with one status, and have read as much of it.
+pub fn check_ends_as_sink_does()
+    ensures { (both : Bool) (input : List ℕ) (ending other : Ending)
+        → check_promise.ends input ending → (sink_promise both).ends input other
+        → (ending.status ≡ other.status) × (ending.reach ≡ other.reach) }
 {}
 
 /// What `source` writes of a file that is not too long is a packet file of the file's session, with batches times m
@@ -54,8 +64,8 @@ pub fn source_sends_a_packet_file()
         × AgreesWithAll (session_for options (length file)) (packets_of list) file)) }
 {}
 
-/// On a packet file of plain packets with which a file agrees, `sink` ends as done with that file, where no other
-/// agrees, and else with need-more; if a packet isn't plain, as not built. It says neither that no file agrees nor that
+/// On a packet file with which a file agrees, `sink` ends as done with that file, where no other agrees, and else with
+/// need-more; or at the limit, where more packets are new than may be kept. It says neither that no file agrees nor that
 /// the input is at fault. On any input, where the two files of need-more aren't asked for, an ending other than done
 /// writes nothing.
 pub fn sink_gives_the_file_that_agrees()
@@ -67,7 +77,7 @@ pub fn sink_gives_the_file_that_agrees()
 {}
 
 /// On any choice of the packets that `source` sends, in any order and with repeats, `sink` ends as done only with the
-/// file that was sent, where no other agrees; else with need-more, and as not built where a packet isn't plain.
+/// file that was sent, where no other agrees; else with need-more, or at the limit of kept packets.
 pub fn sink_gives_what_source_sends()
     ensures { (options : SourceOptions) (file : List ℕ) (sent ending : Ending) (records list : List Item)
         (input : List ℕ) (both : Bool) → HasRanges options → AreBytes file
@@ -104,7 +114,7 @@ pub fn sink_after_source()
         → (source_promise (source_options m t table systematic seed first batches)).ends file sent
         → sent.status ≡ statuses.Done → (sink_promise both).ends sent.output ending
         → ((ending.status ≡ statuses.Done) × (ending.output ≡ file))
-        ⊎ ((ending.status ≡ statuses.NeedMore) ⊎ (ending.status ≡ statuses.NotBuilt)) }
+        ⊎ ((ending.status ≡ statuses.NeedMore) ⊎ (ending.status ≡ statuses.Limit)) }
     ensures whole { (words : List (List ℕ)) (m t table : ℕ) (seed : List ℕ) (batches : ℕ) (both : Bool)
         (file : List ℕ) (sent ending : Ending)
         → command_of words ≡ Some (commands.Source m t table true seed 0 batches)

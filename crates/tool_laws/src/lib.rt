@@ -4,6 +4,7 @@
 mod laws;
 
 pub use laws::{
-    one_ending, relay_sends_what_agrees, sink_after_source, sink_gives_a_file_sent_whole,
-    sink_gives_the_file_that_agrees, sink_gives_what_source_sends, source_sends_a_packet_file,
+    check_ends_as_sink_does, one_ending, relay_sends_what_agrees, sink_after_source,
+    sink_gives_a_file_sent_whole, sink_gives_the_file_that_agrees, sink_gives_what_source_sends,
+    source_sends_a_packet_file,
 };

@@ -1,7 +1,7 @@
 use Rattle.std.proofs.Common.{sym, ◌∙◌}
 use Rattle.tool_laws.proofs.OneReading.{one_show}
 use Rattle.tool_laws.proofs.OneRelay.{one_relay}
-use Rattle.tool_laws.proofs.SinkReach.{one_sink}
+use Rattle.tool_laws.proofs.OneAnswer.{one_check, one_sink}
 use Rattle.tool_laws.proofs.laws.one_ending.Goals as goal
 
 pub returns-clause-nothing : goal.returns-clause-nothing
@@ -12,6 +12,9 @@ returns-clause-source c = λ options input ending other h k. h ∙ sym k
 
 pub returns-clause-sink : goal.returns-clause-sink
 returns-clause-sink c = one_sink
+
+pub returns-clause-check : goal.returns-clause-check
+returns-clause-check c = one_check
 
 pub returns-clause-show : goal.returns-clause-show
 returns-clause-show c = one_show
