@@ -5,6 +5,7 @@ mod answers;
 mod faults;
 mod limits;
 mod refusals;
+mod relays;
 
 use crate::run_over;
 use bats_io::{MemSink, MemSource};
