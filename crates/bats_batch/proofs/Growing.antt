@@ -21,12 +21,14 @@ use Rattle.gf_core.proofs.CombinationLemmas.{IsInSpan-row_sum, IsInSpan-scaled, 
 use Rattle.bats_model.specs.declared.packet.Packet.{Packet}
 use Rattle.bats_model.specs.Kept.{packet_row}
 use Rattle.bats_batch.specs.Basis.{IsSized}
-use Rattle.bats_batch.specs.steps.IsBasis.{IsBasis}
+use Rattle.bats_batch.specs.steps.IsBasis.{AreReduced, IsBasis}
+use Rattle.bats_batch.specs.steps.Marked.{marked, marked_from}
 use Rattle.bats_batch.specs.steps.Reduction.{Reduces, IsNormalized}
 use Rattle.bats_batch.proofs.KeptRows.{length-packet_row, packet_row-lt, AreRows-packets}
+use Rattle.bats_batch.proofs.MarkedPackets.{IsSized-marked, marked-push_all}
 use Rattle.bats_batch.proofs.Judging.{row_sum-undone, row_sum-added}
 
-module _ (m t : ℕ) (kept : List Packet) (pivots : List ℕ) (rows : List (List ℕ)) (basis : IsBasis m t kept pivots rows)
+module _ (m t : ℕ) (kept : List Packet) (pivots : List ℕ) (rows : List (List ℕ)) (basis : AreReduced m t kept pivots rows)
     (packet : Packet) (size : IsSized m t packet) (reduced : List ℕ) (reduces : Reduces (m + t) rows pivots (packet_row packet) reduced)
     (pivot : ℕ) (low : pivot < m) (new : List ℕ) (normalized : IsNormalized pivot reduced new) where
   abbrev row : List ℕ
@@ -87,7 +89,7 @@ module _ (m t : ℕ) (kept : List Packet) (pivots : List ℕ) (rows : List (List
       (IsInSpan-scaled (m + t) (rows ++ new ∷ []) (get_or reduced pivot 0) new are-rows-more (IsInSpan-last (m + t) rows new basis.are long-new)))
       (kept-in (row_sum reduced row) reduces.added))
 
-  more : IsBasis m t (kept ++ packet ∷ []) (pivots ++ pivot ∷ []) (rows ++ new ∷ [])
+  more : AreReduced m t (kept ++ packet ∷ []) (pivots ++ pivot ∷ []) (rows ++ new ∷ [])
   more = record {
     sizes = All-push (IsSized m t) kept packet basis.sizes size;
     are = are-rows-more;
@@ -96,16 +98,27 @@ module _ (m t : ℕ) (kept : List Packet) (pivots : List ℕ) (rows : List (List
     rows_in = subst (λ ps. All (IsInSpan (m + t) ps) (rows ++ new ∷ [])) (sym (map_push packet_row kept packet))
         (All-push (IsInSpan (m + t) (packets ++ row ∷ [])) rows new
         (All-weaker (IsInSpan (m + t) packets) (IsInSpan (m + t) (packets ++ row ∷ [])) old-in rows basis.rows_in) new-in);
-    kept_in = subst (All (IsInSpan (m + t) (rows ++ new ∷ []))) (sym (map_push packet_row kept packet))
+    packets_in = subst (All (IsInSpan (m + t) (rows ++ new ∷ []))) (sym (map_push packet_row kept packet))
         (All-push (IsInSpan (m + t) (rows ++ new ∷ [])) packets row
-        (All-weaker (IsInSpan (m + t) rows) (IsInSpan (m + t) (rows ++ new ∷ [])) kept-in packets basis.kept_in) packet-in);
+        (All-weaker (IsInSpan (m + t) rows) (IsInSpan (m + t) (rows ++ new ∷ [])) kept-in packets basis.packets_in) packet-in);
   }
 
--- a new packet is kept, with its reduced row made 1 at a coefficient that is left
-pub IsBasis-more : (m t : ℕ) (kept : List Packet) (pivots : List ℕ) (rows : List (List ℕ)) → IsBasis m t kept pivots rows → (packet : Packet) → IsSized m t packet
+-- a packet more, with its reduced row made 1 at a coefficient that is left
+pub AreReduced-more : (m t : ℕ) (kept : List Packet) (pivots : List ℕ) (rows : List (List ℕ)) → AreReduced m t kept pivots rows → (packet : Packet) → IsSized m t packet
     → (reduced : List ℕ) → Reduces (m + t) rows pivots (packet_row packet) reduced → (pivot : ℕ) → pivot < m → (new : List ℕ) → IsNormalized pivot reduced new
-    → IsBasis m t (kept ++ packet ∷ []) (pivots ++ pivot ∷ []) (rows ++ new ∷ [])
-IsBasis-more m t kept pivots rows basis packet size reduced reduces pivot low new normalized = more m t kept pivots rows basis packet size reduced reduces pivot low new normalized
+    → AreReduced m t (kept ++ packet ∷ []) (pivots ++ pivot ∷ []) (rows ++ new ∷ [])
+AreReduced-more m t kept pivots rows basis packet size reduced reduces pivot low new normalized = more m t kept pivots rows basis packet size reduced reduces pivot low new normalized
+
+-- the same of a basis
+pub IsBasis-more : (m t : ℕ) (kept : List Packet) (pivots : List ℕ) (rows : List (List ℕ)) → IsBasis m t kept pivots rows → (packet : Packet) → IsSized m t packet
+    → (reduced : List ℕ) → Reduces (m + m) rows pivots (packet_row (marked m (length kept) packet)) reduced → (pivot : ℕ) → pivot < m
+    → (new : List ℕ) → IsNormalized pivot reduced new → IsBasis m t (kept ++ packet ∷ []) (pivots ++ pivot ∷ []) (rows ++ new ∷ [])
+IsBasis-more m t kept pivots rows basis packet size reduced reduces pivot low new normalized = record {
+  sizes = All-push (IsSized m t) kept packet basis.sizes size;
+  reduced = subst (λ (ps : List Packet). AreReduced m m ps (pivots ++ pivot ∷ []) (rows ++ new ∷ [])) (sym (marked-push_all m kept packet))
+      (AreReduced-more m m (marked_from m 0 kept) pivots rows basis.reduced (marked m (length kept) packet)
+      (IsSized-marked m t (length kept) packet size) reduced reduces pivot low new normalized);
+}
 
 -- ---- how many there are
 
@@ -126,15 +139,15 @@ pivots-apart pivots rows triangular i j d before within same =
     omega (arith, one)
 
 -- a basis has no more packets than a packet has coefficients
-pub IsBasis-count : (m t : ℕ) (kept : List Packet) (pivots : List ℕ) (rows : List (List ℕ)) → IsBasis m t kept pivots rows → length rows ≤ m
-IsBasis-count m t kept pivots rows basis =
+pub AreReduced-count : (m t : ℕ) (kept : List Packet) (pivots : List ℕ) (rows : List (List ℕ)) → AreReduced m t kept pivots rows → length rows ≤ m
+AreReduced-count m t kept pivots rows basis =
     subst (λ n. n ≤ m) basis.triangular.sizes
     (length-le_from_distinct_below pivots m (IsDistinct-from_AllPairs Decides-eqb pivots (pivots-apart pivots rows basis.triangular)) (λ q h. below-any q m pivots basis.below h))
 
 -- where a coefficient is left that isn't 0, there is room for one packet more
-pub IsBasis-room : (m t : ℕ) (kept : List Packet) (pivots : List ℕ) (rows : List (List ℕ)) → IsBasis m t kept pivots rows → (reduced old : List ℕ) → Reduces (m + t) rows pivots old reduced
+pub AreReduced-room : (m t : ℕ) (kept : List Packet) (pivots : List ℕ) (rows : List (List ℕ)) → AreReduced m t kept pivots rows → (reduced old : List ℕ) → Reduces (m + t) rows pivots old reduced
     → (place : ℕ) → place < m → get_or reduced place 0 ≢ 0 → length rows + 1 ≤ m
-IsBasis-room m t kept pivots rows basis reduced old reduces place low stands =
+AreReduced-room m t kept pivots rows basis reduced old reduces place low stands =
     let apart : AllPairs (λ p q. p ≢ q) (pivots ++ place ∷ []) =
     all_pairs_push (λ p q. p ≢ q) pivots place (pivots-apart pivots rows basis.triangular)
     (λ k d h same. stands (ap (λ (p : ℕ). get_or reduced p 0) (sym same) ∙ reduces.cleared k d h)) in

@@ -1,8 +1,8 @@
--- What the reduced row of a packet says of the packet: it is new, it follows from the kept packets, or it contradicts them.
-use Rattle.std.proofs.Common.{ℕ, ◌≡◌, ◌≢◌, ◌<◌, ◌≤◌, ◌+◌, ◌∙◌, List, [], length, get_or, take, map, replicate, sym, ap, subst, arith}
+-- What the coefficients that are left of a packet say: whether its vector is a combination of those of other packets.
+use Rattle.std.proofs.Common.{ℕ, ◌≡◌, ◌≢◌, ◌<◌, ◌+◌, ◌∙◌, List, [], length, get_or, take, map, replicate, sym, ap, subst, arith}
 use Rattle.std.specs.Prelude.{All}
 use Rattle.std.proofs.lemmas.List.{length-map, length-take-le, get_or-take, get_or-map, get_or-replicate, ext_get_or, length-replicate}
-use Rattle.std.proofs.lemmas.List.Elements.{All-map, All-weaker, All-take, All-from_get_or}
+use Rattle.std.proofs.lemmas.List.Elements.{All-map, All-weaker, All-take}
 use Rattle.gf_core.specs.Bytes.{AreBytes}
 use Rattle.gf_core.specs.Rows.{row_sum}
 use Rattle.gf_core.specs.Combinations.{IsInSpan}
@@ -10,10 +10,10 @@ use Rattle.gf_core.specs.Triangular.{AreRows, IsZeroAt, AreTriangular}
 use Rattle.gf_core.proofs.RowLemmas.{row_sum_assoc, row_sum_self, row_sum-replicate_zero, replicate_zero-row_sum}
 use Rattle.gf_core.proofs.CombinationLemmas.{take-row_sum, IsInSpan-row_sum, IsInSpan-trans, take-IsInSpan, zeros-triangular}
 use Rattle.bats_model.specs.declared.packet.Packet.{Packet}
-use Rattle.bats_model.specs.Kept.{IsCombination, Follows, Contradicts, packet_row}
+use Rattle.bats_model.specs.Kept.{IsCombination, packet_row}
 use Rattle.bats_batch.specs.Basis.{IsSized}
-use Rattle.bats_batch.specs.steps.IsBasis.{IsBasis}
-use Rattle.bats_batch.specs.steps.Reduction.{Reduces, IsLeading}
+use Rattle.bats_batch.specs.steps.IsBasis.{AreReduced}
+use Rattle.bats_batch.specs.steps.Reduction.{Reduces}
 use Rattle.bats_batch.proofs.KeptRows.{length-packet_row, take-packet_row, AreRows-packets, take-packet_rows}
 
 -- ---- sums that undo one another
@@ -33,7 +33,7 @@ zeros-from row zeros =
     ext_get_or 0 row (replicate (length row) 0) (sym (length-replicate (length row) 0))
     (λ i h. zeros i 0 h ∙ sym (get_or-replicate (length row) i 0 0 h))
 
-module _ (m t : ℕ) (kept : List Packet) (pivots : List ℕ) (rows : List (List ℕ)) (basis : IsBasis m t kept pivots rows)
+module _ (m t : ℕ) (kept : List Packet) (pivots : List ℕ) (rows : List (List ℕ)) (basis : AreReduced m t kept pivots rows)
     (packet : Packet) (size : IsSized m t packet) (reduced : List ℕ)
     (reduces : Reduces (m + t) rows pivots (packet_row packet) reduced) where
   abbrev row : List ℕ
@@ -48,12 +48,6 @@ module _ (m t : ℕ) (kept : List Packet) (pivots : List ℕ) (rows : List (List
   -- what was added is in the span of the kept packets
   added : IsInSpan (m + t) (map packet_row kept) (row_sum reduced row)
   added = IsInSpan-trans (m + t) (map packet_row kept) rows (row_sum reduced row) are-packets basis.rows_in reduces.added
-
-  follows : All (λ byte. byte ≡ 0) reduced → IsInSpan (m + t) (map packet_row kept) row
-  follows zeros =
-      subst (IsInSpan (m + t) (map packet_row kept))
-      (ap (λ w. row_sum w row) (zeros-from reduced zeros ∙ ap (λ n. replicate n 0) same-length) ∙ replicate_zero-row_sum row)
-      added
 
   coefs-row : take m row ≡ packet.coefs
   coefs-row = take-packet_row m t packet size
@@ -70,15 +64,6 @@ module _ (m t : ℕ) (kept : List Packet) (pivots : List ℕ) (rows : List (List
           (ap (λ w. row_sum w (take m row)) zeros ∙
           (ap (row_sum (replicate m 0)) coefs-row ∙
           (ap (λ n. row_sum (replicate n 0) packet.coefs) (sym size.coefs) ∙ replicate_zero-row_sum packet.coefs)))
-
-  -- a row in the span of the kept packets leaves nothing
-  nothing-left : IsInSpan (m + t) (map packet_row kept) row → reduced ≡ replicate (m + t) 0
-  nothing-left is =
-      zeros-triangular (m + t) pivots rows reduced basis.are basis.triangular
-      (subst (IsInSpan (m + t) rows) (row_sum-undone row reduced same-length)
-      (IsInSpan-row_sum (m + t) rows (row_sum reduced row) row basis.are reduces.added
-      (IsInSpan-trans (m + t) rows (map packet_row kept) row basis.are basis.kept_in is)))
-      reduces.cleared
 
   -- ---- the coefficients alone
 
@@ -131,7 +116,7 @@ module _ (m t : ℕ) (kept : List Packet) (pivots : List ℕ) (rows : List (List
       in_fronts : All (IsInSpan m (map (take m) rows)) (map (take m) (map packet_row kept))
       in_fronts =
           All-map (IsInSpan m (map (take m) rows)) (take m) (map packet_row kept)
-          (All-weaker (IsInSpan (m + t) rows) (λ r. IsInSpan m (map (take m) rows) (take m r)) (λ r. take-IsInSpan (m + t) m rows r (omega arith)) (map packet_row kept) basis.kept_in)
+          (All-weaker (IsInSpan (m + t) rows) (λ r. IsInSpan m (map (take m) rows) (take m r)) (λ r. take-IsInSpan (m + t) m rows r (omega arith)) (map packet_row kept) basis.packets_in)
 
       of_vector : IsInSpan m (map (take m) rows) packet.coefs
       of_vector =
@@ -143,19 +128,6 @@ module _ (m t : ℕ) (kept : List Packet) (pivots : List ℕ) (rows : List (List
           ap (λ w. row_sum w packet.coefs) (take-row_sum m reduced row ∙ ap (row_sum (take m reduced)) coefs-row) ∙
           row_sum-undone packet.coefs (take m reduced) (length-take-le m reduced (omega (arith, reduces.size)) ∙ sym size.coefs)
 
-  front-zeros : ((k : ℕ) → k < m → get_or reduced k 0 ≡ 0) → take m reduced ≡ replicate m 0
-  front-zeros before =
-      zeros-from (take m reduced)
-      (All-from_get_or (λ byte. byte ≡ 0) (take m reduced) 0
-      (λ k h. let low : k < m = subst (λ n. k < n) long h in get_or-take m reduced k 0 low ∙ before k low)) ∙
-      ap (λ n. replicate n 0) long
-    where
-      long : length (take m reduced) ≡ m
-      long = length-take-le m reduced (omega (arith, reduces.size))
-
-  at-width : IsInSpan m (map (λ p. p.coefs) kept) packet.coefs → IsCombination (map (λ p. p.coefs) kept) packet.coefs
-  at-width is = subst (λ n. IsInSpan n (map (λ p. p.coefs) kept) packet.coefs) (sym size.coefs) is
-
   -- some coefficient is left: the packet is new
   judged-new : (place : ℕ) → place < m → get_or reduced place 0 ≢ 0 → ¬ IsCombination (map (λ p. p.coefs) kept) packet.coefs
   judged-new place low stands is =
@@ -164,30 +136,13 @@ module _ (m t : ℕ) (kept : List Packet) (pivots : List ℕ) (rows : List (List
       (ap (λ (r : List ℕ). get_or r place 0) (no-coefficient (subst (λ n. IsInSpan n (map (λ p. p.coefs) kept) packet.coefs) size.coefs is)) ∙
       get_or-replicate m place 0 0 low))
 
-  -- nothing is left: the packet follows from the kept ones
-  judged-dependent : All (λ byte. byte ≡ 0) reduced → Follows kept packet
-  judged-dependent zeros = subst (λ n. IsInSpan n (map packet_row kept) row) (sym (length-packet_row m t packet size)) (follows zeros)
+-- no coefficient is left: the vector is a combination
+pub combination-left : (m t : ℕ) (packets : List Packet) (pivots : List ℕ) (rows : List (List ℕ)) → AreReduced m t packets pivots rows → (packet : Packet) → IsSized m t packet
+    → (reduced : List ℕ) → Reduces (m + t) rows pivots (packet_row packet) reduced → take m reduced ≡ replicate m 0 → IsInSpan m (map (λ p. p.coefs) packets) packet.coefs
+combination-left m t packets pivots rows basis packet size reduced reduces = combination m t packets pivots rows basis packet size reduced reduces
 
-  -- payload bytes alone are left: the packet contradicts the kept ones
-  judged-contradiction : (place : ℕ) → m ≤ place → IsLeading reduced place → Contradicts kept packet
-  judged-contradiction place high leads = record {
-    combination = at-width (combination (front-zeros (λ k h. leads.before k (omega arith))));
-    differs = λ is.
-        leads.stands
-        (ap (λ (r : List ℕ). get_or r place 0) (nothing-left (subst (λ n. IsInSpan n (map packet_row kept) row) (length-packet_row m t packet size) is)) ∙
-        get_or-replicate (m + t) place 0 0 (subst (λ n. place < n) reduces.size leads.within));
-  }
-
--- what the place of the first byte that is left says
-pub IsTaken-dependent : (m t : ℕ) (kept : List Packet) (pivots : List ℕ) (rows : List (List ℕ)) → IsBasis m t kept pivots rows → (packet : Packet) → IsSized m t packet
-    → (reduced : List ℕ) → Reduces (m + t) rows pivots (packet_row packet) reduced → All (λ byte. byte ≡ 0) reduced → Follows kept packet
-IsTaken-dependent m t kept pivots rows basis packet size reduced reduces = judged-dependent m t kept pivots rows basis packet size reduced reduces
-
-pub IsTaken-contradiction : (m t : ℕ) (kept : List Packet) (pivots : List ℕ) (rows : List (List ℕ)) → IsBasis m t kept pivots rows → (packet : Packet) → IsSized m t packet
-    → (reduced : List ℕ) → Reduces (m + t) rows pivots (packet_row packet) reduced → (place : ℕ) → m ≤ place → IsLeading reduced place → Contradicts kept packet
-IsTaken-contradiction m t kept pivots rows basis packet size reduced reduces = judged-contradiction m t kept pivots rows basis packet size reduced reduces
-
-pub IsTaken-new : (m t : ℕ) (kept : List Packet) (pivots : List ℕ) (rows : List (List ℕ)) → IsBasis m t kept pivots rows → (packet : Packet) → IsSized m t packet
+-- some coefficient is left: the packet is new
+pub IsTaken-new : (m t : ℕ) (kept : List Packet) (pivots : List ℕ) (rows : List (List ℕ)) → AreReduced m t kept pivots rows → (packet : Packet) → IsSized m t packet
     → (reduced : List ℕ) → Reduces (m + t) rows pivots (packet_row packet) reduced → (place : ℕ) → place < m → get_or reduced place 0 ≢ 0
     → ¬ IsCombination (map (λ p. p.coefs) kept) packet.coefs
 IsTaken-new m t kept pivots rows basis packet size reduced reduces = judged-new m t kept pivots rows basis packet size reduced reduces

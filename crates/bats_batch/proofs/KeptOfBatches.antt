@@ -1,5 +1,5 @@
 -- What is kept of each batch after one packet more, by what becomes of that packet.
-use Rattle.std.proofs.Common.{ℕ, ◌≡◌, ◌≤◌, ◌+◌, ◌∙◌, ◌==◌, sym, ap, subst, refl, Bool, true, false, cond, List, All, [], ◌∷◌, ◌++◌, length, map, take, arith, inl, inr}
+use Rattle.std.proofs.Common.{ℕ, ◌≡◌, ◌+◌, ◌∙◌, ◌==◌, sym, ap, subst, refl, Bool, true, false, cond, List, All, [], ◌∷◌, ◌++◌, map, take, arith, inl, inr}
 use Rattle.std.specs.Prelude.{filter}
 use Rattle.std.specs.Bool.{Decides}
 use Rattle.std.proofs.lemmas.Bool.{cases_Bool, eq-eqb, false_from_ne_true}

@@ -1,6 +1,9 @@
 pub mod Reducing
 pub mod KeptRows
+pub mod PayloadSums
+pub mod MarkedPackets
 pub mod Judging
+pub mod Factors
 pub mod Growing
 pub mod Offering
 pub mod KeptAfter

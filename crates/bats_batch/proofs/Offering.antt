@@ -1,19 +1,24 @@
 -- An offered packet, from its reduced row to what becomes of it and to the basis after it.
-use Rattle.std.proofs.Common.{ℕ, ◌≡◌, ◌<◌, ◌≤◌, ◌+◌, ◌∙◌, List, [], ◌∷◌, ◌++◌, length, map, sym, ap, subst, arith}
+use Rattle.std.proofs.Common.{ℕ, ◌≡◌, ◌≢◌, ◌<◌, ◌≤◌, ◌+◌, ◌∙◌, List, [], ◌∷◌, ◌++◌, length, get_or, take, drop, replicate, sym, ap, subst, arith}
 use Rattle.std.specs.Prelude.{All}
-use Rattle.std.proofs.lemmas.List.{length-map, map_push}
-use Rattle.gf_core.specs.Bytes.{AreBytes}
+use Rattle.std.proofs.lemmas.List.{length-map, map_push, length-take-le, get_or-take}
+use Rattle.gf_core.specs.Combinations.{combination}
 use Rattle.bats_model.specs.declared.packet.Packet.{Packet}
 use Rattle.bats_model.specs.Kept.{IsCombination, Follows, Contradicts, packet_row}
+use Rattle.bats_model.specs.Relay.{payloads_of}
 use Rattle.bats_model.specs.declared.taken.Taken.{Taken}
 use Rattle.bats_batch.specs.declared.entry.Entry.{Entry}
 use Rattle.bats_batch.specs.Basis.{BasisData, IsSized, IsTaken, kept_with, StandsForBatch}
 use Rattle.bats_batch.specs.steps.IsBasis.{IsBasis}
+use Rattle.bats_batch.specs.steps.Marked.{marked, marked_from}
 use Rattle.bats_batch.specs.steps.Reduction.{Reduces, IsLeading}
 use Rattle.bats_batch.specs.steps.Entries.{offered_packets, pivots_of, rows_of, Keeps}
-use Rattle.bats_batch.proofs.Judging.{IsTaken-dependent, IsTaken-contradiction, IsTaken-new}
+use Rattle.bats_batch.specs.steps.Verdicts.{IsNewWith}
+use Rattle.bats_batch.proofs.MarkedPackets.{IsSized-marked, coefs-marked}
+use Rattle.bats_batch.proofs.Judging.{IsTaken-new, zeros-from}
+use Rattle.bats_batch.proofs.Factors.{Follows-factors, Contradicts-factors}
 use Rattle.bats_batch.proofs.KeptOfBatches.{StandsForBatch-taken}
-use Rattle.bats_batch.proofs.Growing.{IsBasis-more, IsBasis-count, IsBasis-room}
+use Rattle.bats_batch.proofs.Growing.{IsBasis-more, AreReduced-count, AreReduced-room}
 
 -- the entries are those of a basis
 abbrev pub AreEntries : ℕ → ℕ → List Entry → Type 0
@@ -23,22 +28,11 @@ AreEntries m t entries = IsBasis m t (offered_packets entries) (pivots_of entrie
 abbrev pub basis_of : ℕ → ℕ → List Entry → BasisData
 basis_of m t entries = record { m = m; t = t; kept = offered_packets entries }
 
--- a packet of the right size is reduced by the entries of a basis
-pub record IsReduced (m t size : ℕ) (entries lent : List Entry) (seen : BasisData) (packet : Packet) (reduced : List ℕ) : Type 0 where
-  pub basis : AreEntries m t entries
-  pub view : basis_of m t entries ≡ seen
-  pub same : lent ≡ entries
-  pub sum : size ≡ m + t
-  pub coefs : length packet.coefs ≡ seen.m
-  pub payload : length packet.payload ≡ seen.t
-  pub coef_bytes : AreBytes packet.coefs
-  pub payload_bytes : AreBytes packet.payload
-  pub reduces : Reduces size (rows_of lent) (pivots_of lent) (packet_row packet) reduced
-
 -- the entries are no more than the coefficients
 pub AreEntries-count : (m t : ℕ) (entries : List Entry) → AreEntries m t entries → length entries ≤ m
 AreEntries-count m t entries basis =
-    subst (λ n. n ≤ m) (length-map entries (λ e. e.row.items)) (IsBasis-count m t (offered_packets entries) (pivots_of entries) (rows_of entries) basis)
+    subst (λ n. n ≤ m) (length-map entries (λ e. e.row.items))
+    (AreReduced-count m m (marked_from m 0 (offered_packets entries)) (pivots_of entries) (rows_of entries) basis.reduced)
 
 -- a counter that rose by at most one step an entry
 pub counted : (m t : ℕ) (entries lent : List Entry) (seen : BasisData) (old new : ℕ) → AreEntries m t entries → basis_of m t entries ≡ seen → lent ≡ entries
@@ -58,79 +52,104 @@ counted_of_rank m t entries lent seen old new view same h =
     let long : length lent ≡ length entries = ap (λ (es : List Entry). length es) same in
     omega (arith, kept, packets, long, h)
 
-module _ (m t size : ℕ) (entries lent : List Entry) (seen : BasisData) (packet : Packet) (reduced : List ℕ) (is : IsReduced m t size entries lent seen packet reduced) where
-  sized : IsSized m t packet
-  sized = record {
-    coefs = is.coefs ∙ sym (ap (λ (d : BasisData). d.m) is.view);
-    payload = is.payload ∙ sym (ap (λ (d : BasisData). d.t) is.view);
-    coef_bytes = is.coef_bytes;
-    payload_bytes = is.payload_bytes;
-  }
+-- ---- what is left of a packet
 
-  reduces-entries : Reduces (m + t) (rows_of entries) (pivots_of entries) (packet_row packet) reduced
-  reduces-entries =
-      subst (λ es. Reduces (m + t) (rows_of es) (pivots_of es) (packet_row packet) reduced) is.same
-      (subst (λ n. Reduces n (rows_of lent) (pivots_of lent) (packet_row packet) reduced) is.sum is.reduces)
+-- the packet's row was reduced by the entries of a basis
+pub record IsLeft (m t : ℕ) (entries : List Entry) (packet : Packet) (reduced : List ℕ) : Type 0 where
+  pub basis : AreEntries m t entries
+  pub size : IsSized m t packet
+  pub reduces : Reduces (m + m) (rows_of entries) (pivots_of entries) (packet_row (marked m (length entries) packet)) reduced
 
-  kept-is : offered_packets entries ≡ seen.kept
-  kept-is = ap (λ (d : BasisData). d.kept) is.view
+module _ (m t : ℕ) (entries : List Entry) (packet : Packet) (reduced : List ℕ) (is : IsLeft m t entries packet reduced) where
+  abbrev kept : List Packet
+  kept = offered_packets entries
 
-  dependent : All (λ byte. byte ≡ 0) reduced → Follows seen.kept packet
-  dependent zeros =
-      subst (λ kept. Follows kept packet) kept-is
-      (IsTaken-dependent m t (offered_packets entries) (pivots_of entries) (rows_of entries) is.basis packet sized reduced reduces-entries zeros)
+  as-many : length entries ≡ length kept
+  as-many = sym (length-map entries (λ e. e.packet))
 
-  contradiction : (place : ℕ) → m ≤ place → IsLeading reduced place → Contradicts seen.kept packet
-  contradiction place high leads =
-      subst (λ kept. Contradicts kept packet) kept-is
-      (IsTaken-contradiction m t (offered_packets entries) (pivots_of entries) (rows_of entries) is.basis packet sized reduced reduces-entries place high leads)
+  reduces-kept : Reduces (m + m) (rows_of entries) (pivots_of entries) (packet_row (marked m (length kept) packet)) reduced
+  reduces-kept = subst (λ n. Reduces (m + m) (rows_of entries) (pivots_of entries) (packet_row (marked m n packet)) reduced) as-many is.reduces
 
-  new : (place : ℕ) → place < m → IsLeading reduced place → ¬ IsCombination (map (λ p. p.coefs) seen.kept) packet.coefs
-  new place low leads =
-      subst (λ (kept : List Packet). ¬ IsCombination (map (λ p. p.coefs) kept) packet.coefs) kept-is
-      (IsTaken-new m t (offered_packets entries) (pivots_of entries) (rows_of entries) is.basis packet sized reduced reduces-entries place low leads.stands)
+  few : length kept ≤ m
+  few = subst (λ n. n ≤ m) as-many (AreEntries-count m t entries is.basis)
 
-  room : (place : ℕ) → place < m → IsLeading reduced place → length lent + 1 ≤ seen.m
-  room place low leads =
-      let free = IsBasis-room m t (offered_packets entries) (pivots_of entries) (rows_of entries) is.basis reduced (packet_row packet) reduces-entries place low leads.stands in
-      let long : length lent ≡ length entries = ap (λ (es : List Entry). length es) is.same in
-      let rows : length (rows_of entries) ≡ length entries = length-map entries (λ e. e.row.items) in
-      let size_is : m ≡ seen.m = ap (λ (d : BasisData). d.m) is.view in
-      omega (arith, free, long, rows, size_is)
+  front-length : length (take m reduced) ≡ m
+  front-length = length-take-le m reduced (omega (arith, is.reduces.size))
 
-  entries-more : (place : ℕ) → place < m → (after : List Entry) → Keeps entries after packet place reduced → AreEntries m t after
-  entries-more place low after keeps =
-      subst (AreEntries m t) (sym keeps.gained)
-      (subst (λ ps. IsBasis m t ps (pivots_of (entries ++ keeps.entry ∷ [])) (rows_of (entries ++ keeps.entry ∷ []))) (sym packets)
-      (subst (λ ps. IsBasis m t (offered_packets entries ++ packet ∷ []) ps (rows_of (entries ++ keeps.entry ∷ []))) (sym pivots)
-      (subst (IsBasis m t (offered_packets entries ++ packet ∷ []) (pivots_of entries ++ place ∷ [])) (sym (map_push (λ e. e.row.items) entries keeps.entry))
-      (IsBasis-more m t (offered_packets entries) (pivots_of entries) (rows_of entries) is.basis packet sized reduced reduces-entries place low keeps.entry.row.items keeps.normalized))))
-    where
-      packets : offered_packets (entries ++ keeps.entry ∷ []) ≡ offered_packets entries ++ packet ∷ []
-      packets = map_push (λ e. e.packet) entries keeps.entry ∙ ap (λ p. offered_packets entries ++ p ∷ []) keeps.same_packet
+  no-coefficient : All (λ byte. byte ≡ 0) (take m reduced) → take m reduced ≡ replicate m 0
+  no-coefficient zeros = zeros-from (take m reduced) zeros ∙ ap (λ n. replicate n 0) front-length
 
-      pivots : pivots_of (entries ++ keeps.entry ∷ []) ≡ pivots_of entries ++ place ∷ []
-      pivots = map_push (λ e. e.pivot) entries keeps.entry ∙ ap (λ p. pivots_of entries ++ p ∷ []) keeps.same_pivot
+  new-at : (place : ℕ) → IsLeading (take m reduced) place → IsNewWith m entries packet reduced place
+  new-at place leads =
+      let low : place < m = subst (λ n. place < n) front-length leads.within in
+      let stands : get_or reduced place 0 ≢ 0 = λ e. leads.stands (get_or-take m reduced place 0 low ∙ e) in
+      record {
+        new =
+            subst (λ vectors. ¬ IsCombination vectors packet.coefs) (coefs-marked m 0 kept)
+            (IsTaken-new m m (marked_from m 0 kept) (pivots_of entries) (rows_of entries) is.basis.reduced (marked m (length kept) packet)
+            (IsSized-marked m t (length kept) packet is.size) reduced reduces-kept place low stands);
+        low = low;
+        stands = stands;
+        reduces = is.reduces;
+      }
 
-pub offered-dependent : (m t size : ℕ) (entries lent : List Entry) (seen : BasisData) (packet : Packet) (reduced : List ℕ) → IsReduced m t size entries lent seen packet reduced
-    → All (λ byte. byte ≡ 0) reduced → Follows seen.kept packet
-offered-dependent = dependent
+  follows : All (λ byte. byte ≡ 0) (take m reduced) → combination t (drop m reduced) (payloads_of kept) ≡ packet.payload → Follows kept packet
+  follows zeros same =
+      Follows-factors m t kept (pivots_of entries) (rows_of entries) is.basis few packet is.size reduced reduces-kept (no-coefficient zeros) same
 
-pub offered-contradiction : (m t size : ℕ) (entries lent : List Entry) (seen : BasisData) (packet : Packet) (reduced : List ℕ) → IsReduced m t size entries lent seen packet reduced
-    → (place : ℕ) → m ≤ place → IsLeading reduced place → Contradicts seen.kept packet
-offered-contradiction = contradiction
+  contradicts : All (λ byte. byte ≡ 0) (take m reduced) → ¬ (combination t (drop m reduced) (payloads_of kept) ≡ packet.payload) → Contradicts kept packet
+  contradicts zeros apart =
+      Contradicts-factors m t kept (pivots_of entries) (rows_of entries) is.basis few packet is.size reduced reduces-kept (no-coefficient zeros) apart
 
-pub offered-new : (m t size : ℕ) (entries lent : List Entry) (seen : BasisData) (packet : Packet) (reduced : List ℕ) → IsReduced m t size entries lent seen packet reduced
-    → (place : ℕ) → place < m → IsLeading reduced place → ¬ IsCombination (map (λ p. p.coefs) seen.kept) packet.coefs
-offered-new = new
+pub left-new : (m t : ℕ) (entries : List Entry) (packet : Packet) (reduced : List ℕ) → IsLeft m t entries packet reduced
+    → (place : ℕ) → IsLeading (take m reduced) place → IsNewWith m entries packet reduced place
+left-new = new-at
 
-pub offered-room : (m t size : ℕ) (entries lent : List Entry) (seen : BasisData) (packet : Packet) (reduced : List ℕ) → IsReduced m t size entries lent seen packet reduced
-    → (place : ℕ) → place < m → IsLeading reduced place → length lent + 1 ≤ seen.m
-offered-room = room
+pub left-follows : (m t : ℕ) (entries : List Entry) (packet : Packet) (reduced : List ℕ) → IsLeft m t entries packet reduced
+    → All (λ byte. byte ≡ 0) (take m reduced) → combination t (drop m reduced) (payloads_of (offered_packets entries)) ≡ packet.payload → Follows (offered_packets entries) packet
+left-follows = follows
 
-pub offered-entries : (m t size : ℕ) (entries lent : List Entry) (seen : BasisData) (packet : Packet) (reduced : List ℕ) → IsReduced m t size entries lent seen packet reduced
-    → (place : ℕ) → place < m → (after : List Entry) → Keeps entries after packet place reduced → AreEntries m t after
-offered-entries = entries-more
+pub left-contradicts : (m t : ℕ) (entries : List Entry) (packet : Packet) (reduced : List ℕ) → IsLeft m t entries packet reduced
+    → All (λ byte. byte ≡ 0) (take m reduced) → ¬ (combination t (drop m reduced) (payloads_of (offered_packets entries)) ≡ packet.payload)
+    → Contradicts (offered_packets entries) packet
+left-contradicts = contradicts
+
+-- ---- a new packet
+
+-- there is room for one more
+pub new-room : (m t : ℕ) (entries lent : List Entry) (seen : BasisData) (packet : Packet) (row : List ℕ) (pivot : ℕ) → AreEntries m t entries → basis_of m t entries ≡ seen
+    → lent ≡ entries → IsNewWith m lent packet row pivot → length lent + 1 ≤ seen.m
+new-room m t entries lent seen packet row pivot basis view same is =
+    let here : IsNewWith m entries packet row pivot = subst (λ (es : List Entry). IsNewWith m es packet row pivot) same is in
+    let free =
+    AreReduced-room m m (marked_from m 0 (offered_packets entries)) (pivots_of entries) (rows_of entries) basis.reduced row
+    (packet_row (marked m (length entries) packet)) here.reduces pivot here.low here.stands in
+    let long : length lent ≡ length entries = ap (λ (es : List Entry). length es) same in
+    let size : m ≡ seen.m = ap (λ (d : BasisData). d.m) view in
+    omega (arith, free, length-map entries (λ e. e.row.items), long, size)
+
+-- the entries after it
+pub entries-more : (m t : ℕ) (entries lent : List Entry) (packet : Packet) (row : List ℕ) (pivot : ℕ) → AreEntries m t entries → lent ≡ entries
+    → IsSized m t packet → IsNewWith m lent packet row pivot → (after : List Entry) → Keeps entries after packet pivot row → AreEntries m t after
+entries-more m t entries lent packet row pivot basis same size is after keeps =
+    subst (AreEntries m t) (sym keeps.gained)
+    (subst (λ ps. IsBasis m t ps (pivots_of (entries ++ keeps.entry ∷ [])) (rows_of (entries ++ keeps.entry ∷ []))) (sym packets)
+    (subst (λ ps. IsBasis m t (offered_packets entries ++ packet ∷ []) ps (rows_of (entries ++ keeps.entry ∷ []))) (sym pivots)
+    (subst (IsBasis m t (offered_packets entries ++ packet ∷ []) (pivots_of entries ++ pivot ∷ [])) (sym (map_push (λ e. e.row.items) entries keeps.entry))
+    (IsBasis-more m t (offered_packets entries) (pivots_of entries) (rows_of entries) basis packet size row reduces-kept pivot is.low keeps.entry.row.items keeps.normalized))))
+  where
+    reduces-entries : Reduces (m + m) (rows_of entries) (pivots_of entries) (packet_row (marked m (length entries) packet)) row
+    reduces-entries = subst (λ (es : List Entry). Reduces (m + m) (rows_of es) (pivots_of es) (packet_row (marked m (length es) packet)) row) same is.reduces
+
+    reduces-kept : Reduces (m + m) (rows_of entries) (pivots_of entries) (packet_row (marked m (length (offered_packets entries)) packet)) row
+    reduces-kept =
+        subst (λ n. Reduces (m + m) (rows_of entries) (pivots_of entries) (packet_row (marked m n packet)) row) (sym (length-map entries (λ e. e.packet))) reduces-entries
+
+    packets : offered_packets (entries ++ keeps.entry ∷ []) ≡ offered_packets entries ++ packet ∷ []
+    packets = map_push (λ e. e.packet) entries keeps.entry ∙ ap (λ p. offered_packets entries ++ p ∷ []) keeps.same_packet
+
+    pivots : pivots_of (entries ++ keeps.entry ∷ []) ≡ pivots_of entries ++ pivot ∷ []
+    pivots = map_push (λ e. e.pivot) entries keeps.entry ∙ ap (λ p. pivots_of entries ++ p ∷ []) keeps.same_pivot
 
 -- ---- what the basis stands for after it
 
@@ -144,14 +163,22 @@ basis_of-kept m t entries after seen packet place row view keeps =
     ap (λ (ps : List Packet). record { m = m; t = t; kept = ps }) packets
     ∙ ap (λ (d : BasisData). record d { kept = d.kept ++ packet ∷ [] }) view
 
-pub offered-stands : (m t size : ℕ) (entries lent : List Entry) (seen : BasisData) (packet : Packet) (reduced : List ℕ) → IsReduced m t size entries lent seen packet reduced
+-- what became of the packet, said of the kept packets as the callers see them
+pub taken-seen : (m t : ℕ) (entries lent : List Entry) (seen : BasisData) (packet : Packet) (taken : Taken) → basis_of m t entries ≡ seen → lent ≡ entries
+    → IsTaken (offered_packets lent) packet taken → IsTaken seen.kept packet taken
+taken-seen m t entries lent seen packet taken view same becomes =
+    subst (λ (kept : List Packet). IsTaken kept packet taken)
+    (ap (λ (es : List Entry). offered_packets es) same ∙ ap (λ (d : BasisData). d.kept) view) becomes
+
+pub offered-stands : (m t : ℕ) (entries : List Entry) (seen : BasisData) (packet : Packet) → basis_of m t entries ≡ seen
+    → IsSized m (length packet.payload) packet → length packet.payload ≡ seen.t
     → (taken : Taken) → IsTaken seen.kept packet taken → (after : BasisData) → after ≡ record seen { kept = kept_with seen.kept packet taken }
     → (packets : List Packet) → StandsForBatch packet.batch packets seen → StandsForBatch packet.batch (packets ++ packet ∷ []) after
-offered-stands m t size entries lent seen packet reduced is taken becomes after same packets stands =
+offered-stands m t entries seen packet view size payload taken becomes after same packets stands =
     let sizes : IsSized seen.m seen.t packet = record {
-      coefs = is.coefs;
-      payload = is.payload;
-      coef_bytes = is.coef_bytes;
-      payload_bytes = is.payload_bytes;
+      coefs = size.coefs ∙ ap (λ (d : BasisData). d.m) view;
+      payload = payload;
+      coef_bytes = size.coef_bytes;
+      payload_bytes = size.payload_bytes;
     } in
     StandsForBatch-taken packets packet seen after taken sizes becomes same stands

@@ -116,3 +116,9 @@ IsNormalized-scaled pivot row factor bytes below product = record {
   back = sym (sym (scaled_row-gf_mul (get_or row pivot 0) factor row below bytes) ∙ (ap (λ f. scaled_row f row) product ∙ scaled_row-one row));
   one = get_or-scaled_row factor row pivot ∙ (gf_mul_comm factor (get_or row pivot 0) below (byte_at row pivot bytes) ∙ product);
 }
+
+-- the same with the row and its width by other names
+pub Reduces-from : (width : ℕ) (rows : List (List ℕ)) (pivots row old new : List ℕ) → old ≡ row → length row ≡ width
+    → Reduces (length old) rows pivots old new → Reduces width rows pivots row new
+Reduces-from width rows pivots row old new same size is =
+    subst (λ n. Reduces n rows pivots row new) size (subst (λ (r : List ℕ). Reduces (length r) rows pivots r new) same is)

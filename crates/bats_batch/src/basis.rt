@@ -1,8 +1,8 @@
 //! The basis of one batch.
-ghost use Rattle.std.specs.Prelude.{ℕ, ◌≡◌, ◌≢◌, ◌<◌, ◌+◌, ◌≤◌, [], ◌∷◌, ◌++◌, List, All, length, IfOk, OnOk, OnErr, MatchOption, slice_get, Some};
+ghost use Rattle.std.specs.Prelude.{ℕ, ◌≡◌, ◌<◌, ◌+◌, ◌≤◌, [], ◌∷◌, ◌++◌, List, All, length, IfOk, OnOk, OnErr, slice_get, Some};
 
-use crate::entry::{Entry, keep, write_row};
-use crate::reduction::{first_nonzero, reduce_by};
+use crate::entry::{Entry, keep};
+use crate::judged::{Judged, judge_packet};
 use bats_model::{Packet, Taken};
 use gf_rows::Steps;
 use std::alloc::{AllocError, Global};
@@ -18,8 +18,10 @@ pub struct Basis {
     m: u8,
     t: u16,
     entries: Vec<Entry>,
-    // The offered packet as one row, while it is reduced.
+    // The offered packet's coefficients and factors, while they are reduced.
     row: Vec<u8>,
+    // The sum of kept payloads that the payload of a packet that isn't new is compared with.
+    sum: Vec<u8>,
 }
 
 impl Model for Basis {
@@ -36,42 +38,8 @@ impl Model for Basis {
         (pivots_of b.entries.items) (rows_of b.entries.items) };
 }
 
-ghost use Rattle.gf_core.specs.Bytes.{AreBytes};
-ghost use Rattle.gf_core.specs.Triangular.{AreRows, AreTriangular};
 ghost use Rattle.bats_model.specs.declared.packet.Packet.{Packet};
-ghost use Rattle.bats_model.specs.Kept.{packet_row};
-ghost use Rattle.bats_batch.specs.steps.Reduction.{Reduces, IsLeading};
-ghost use Rattle.bats_batch.specs.steps.Entries.{pivots_of, rows_of};
 ghost use Rattle.bats_batch.specs.Basis.{IsSized, IsTaken, kept_with, StandsForBatch};
-
-// Makes `row` the packet's row, of this many bytes, reduced by the entries. It gives the place of the first byte that
-// is left.
-fn reduce_packet<C: Ledger, L: Ledger>(
-    entries: &[Entry],
-    row: &mut Vec<u8>,
-    packet: &Packet,
-    size: usize,
-    coef_steps: &mut Steps<C>,
-    steps: &mut Steps<L>,
-) -> Result<Option<usize>, AllocError>
-    requires size { length (packet_row packet.now) ≡ size }
-    requires rows { AreRows size (rows_of entries.now) }
-    requires triangular { AreTriangular (pivots_of entries.now) (rows_of entries.now) }
-    ensures coef_bytes { OnOk result (AreBytes packet.now.coefs) }
-    ensures payload_bytes { OnOk result (AreBytes packet.now.payload) }
-    ensures reduced { OnOk result (Reduces size (rows_of entries.now) (pivots_of entries.now)
-        (packet_row packet.now) row.new.items) }
-    ensures place { IfOk result (λ place. MatchOption place (All (λ byte. byte ≡ 0) row.new.items)
-        (IsLeading row.new.items)) }
-    ensures coef_steps { coef_steps.new ≤ coef_steps.old + length entries.now }
-    ensures steps { steps.new ≤ steps.old + length entries.now }
-    ensures coef_steps_rise { coef_steps.old ≤ coef_steps.new }
-    ensures steps_rise { steps.old ≤ steps.new }
-{
-    write_row(row, packet, size)?;
-    reduce_by(entries, row, coef_steps, steps);
-    Ok(first_nonzero(row))
-}
 
 impl Basis {
     /// A basis that keeps no packet, for packets of `m` coefficients and `t` payload bytes. It takes no memory.
@@ -85,6 +53,7 @@ impl Basis {
             t,
             entries: Vec::new(alloc),
             row: Vec::new(alloc),
+            sum: Vec::new(alloc),
         }
     }
 
@@ -107,22 +76,20 @@ impl Basis {
         ensures coef_steps_rise { coef_steps.old ≤ coef_steps.new }
         ensures steps_rise { steps.old ≤ steps.new }
     {
-        let size = usize::from(self.m) + usize::from(self.t);
-        let place = reduce_packet(
+        let judged = judge_packet(
             &self.entries,
             &mut self.row,
+            &mut self.sum,
             packet,
-            size,
+            self.m,
             coef_steps,
             steps,
         )?;
-        let Some(place) = place else {
-            return Ok(Taken::Dependent);
-        };
-        if place >= usize::from(self.m) {
-            return Ok(Taken::Contradiction);
-        }
-        Ok(Taken::Kept)
+        Ok(match judged {
+            Judged::New(_) => Taken::Kept,
+            Judged::Dependent => Taken::Dependent,
+            Judged::Contradiction => Taken::Contradiction,
+        })
     }
 
     /// Offers a packet of M coefficients and T payload bytes of the basis's batch, which is kept where it is new.
@@ -149,21 +116,20 @@ impl Basis {
         ensures coef_steps_rise { coef_steps.old ≤ coef_steps.new }
         ensures steps_rise { steps.old ≤ steps.new }
     {
-        let size = usize::from(self.m) + usize::from(self.t);
-        let place = reduce_packet(
+        let judged = judge_packet(
             &self.entries,
             &mut self.row,
+            &mut self.sum,
             packet,
-            size,
+            self.m,
             coef_steps,
             steps,
         )?;
-        let Some(pivot) = place else {
-            return Ok(Taken::Dependent);
+        let pivot = match judged {
+            Judged::New(pivot) => pivot,
+            Judged::Dependent => return Ok(Taken::Dependent),
+            Judged::Contradiction => return Ok(Taken::Contradiction),
         };
-        if pivot >= usize::from(self.m) {
-            return Ok(Taken::Contradiction);
-        }
         let row = mem::replace(&mut self.row, Vec::new(self.alloc));
         keep(
             self.alloc,
@@ -172,7 +138,6 @@ impl Basis {
             pivot,
             row,
             coef_steps,
-            steps,
         )?;
         Ok(Taken::Kept)
     }

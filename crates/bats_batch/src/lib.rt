@@ -3,8 +3,10 @@
 #![tactic(auto)]
 
 mod basis;
+mod combining;
 mod entry;
 mod held;
+mod judged;
 mod laws;
 mod reduction;
 mod slot;

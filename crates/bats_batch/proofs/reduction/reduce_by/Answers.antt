@@ -22,9 +22,7 @@ pub loop-entry-init : goal.loop-entry-init
 loop-entry-init g c = record {
   reduced = Reduces-none (rows_of c.args.entries.now) c.args.row.now (All-from_get_or (λ byte. byte < 256) c.args.row.now 0 (λ k h. omega (arith, c.type_inv.row k)));
   coef_steps = omega arith;
-  steps = omega arith;
   coef_steps_rise = omega arith;
-  steps_rise = omega arith;
 }
 
 pub clear_pivot-requires-clause-length : goal.clear_pivot-requires-clause-length
@@ -65,7 +63,5 @@ loop-entry-preserved g c =
           (Reduces-more (length c.args.row.now) (rows_of entries) (pivots_of entries) c.args.row.now row i c.requires.rows c.requires.triangular
           (λ k. length c.args.row.now) (inside entries i h) c.loop-entry.invariant.reduced);
       coef_steps = omega arith;
-      steps = omega arith;
       coef_steps_rise = omega arith;
-      steps_rise = omega arith;
     }

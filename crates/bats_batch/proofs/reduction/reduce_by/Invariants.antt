@@ -7,7 +7,5 @@ abbrev pub invariant-loop-entry : goal.invariant-loop-entry
 invariant-loop-entry g l = record {
   reduced : Reduces (length l.fn.row) (rows_of l.entries) (take l.entry-index (pivots_of l.entries)) l.fn.row l.row;
   coef_steps : l.coef_steps ≤ l.fn.coef_steps + l.entry-index;
-  steps : l.steps ≤ l.fn.steps + l.entry-index;
   coef_steps_rise : l.fn.coef_steps ≤ l.coef_steps;
-  steps_rise : l.fn.steps ≤ l.steps;
 }
