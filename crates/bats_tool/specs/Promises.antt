@@ -1,5 +1,5 @@
 -- What each command promises.
-use Rattle.std.specs.Prelude.{ℕ, List, Option, None, Some, codes}
+use Rattle.std.specs.Prelude.{Option, None, Some, codes}
 use Rattle.tool_run.specs.declared.status.Status.TheVariants as statuses
 use Rattle.tool_run.specs.Ending.{Ending, refusal, untouched}
 use Rattle.tool_run.specs.Promise.{Promise, reads_nothing}
@@ -8,6 +8,7 @@ use Rattle.bats_words.specs.declared.command.Command.TheVariants as commands
 use Rattle.bats_words.specs.Options.{source_options}
 use Rattle.tool_source.specs.Source.{source_promise}
 use Rattle.tool_sink.specs.Sink.{sink_promise}
+use Rattle.tool_sink.specs.Check.{check_promise}
 use Rattle.tool_stream.specs.Show.{show_promise}
 use Rattle.tool_stream.specs.Relay.{relay_promise}
 
@@ -22,8 +23,5 @@ promise_of (Some (commands.Source m t table systematic seed first batches)) =
     source_promise (source_options m t table systematic seed first batches)
 promise_of (Some (commands.Relay seed extra count)) = relay_promise seed extra count
 promise_of (Some (commands.Sink workers both)) = sink_promise both
+promise_of (Some (commands.Check workers)) = check_promise
 promise_of (Some commands.Show) = show_promise
-
--- the endings that are right for these words on this input
-abbrev pub IsEnding : Option Command → List ℕ → Ending → Type 0
-IsEnding command input ending = (promise_of command).ends input ending

@@ -13,7 +13,7 @@ use std::alloc::Global;
 use std::sync::ledger::Ledger;
 use std::thread::Threads;
 use tool_run::{Finish, Status, Stop, conclude, refuse};
-use tool_sink::sink;
+use tool_sink::{check, sink};
 use tool_source::source;
 use tool_stream::{relay, show};
 
@@ -68,6 +68,9 @@ fn attempt<R: Threads + Sync, S: Source, O: Sink, C: Ledger, L: Ledger>(
         Some(Command::Sink { workers, both }) => sink(
             rt, alloc, workers, both, input, output, coef_steps, steps,
         ),
+        Some(Command::Check { workers }) => {
+            check(rt, alloc, workers, input, output, coef_steps, steps)
+        }
         Some(Command::Show) => show(alloc, input, output),
         None => usage(alloc),
     }

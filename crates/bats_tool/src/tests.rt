@@ -2,6 +2,7 @@
 ghost use Rattle.std.specs.Prelude.{◌≤◌};
 
 mod answers;
+mod every_file;
 mod faults;
 mod limits;
 mod refusals;
@@ -33,8 +34,6 @@ const RELAY: &str = "relay --seed 00000000000000000000000000000000 --rule fixed 
 
 // A change of the small packet file that changes nothing.
 const AS_IT_IS: (usize, u8) = (0, b'B');
-
-const NOT_BUILT: &str = "bats: not built\n";
 
 // The lines that `show` writes of the small packet file.
 const LINES: [&str; 3] = [

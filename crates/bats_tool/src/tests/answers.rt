@@ -21,8 +21,8 @@ const EMPTY: &str =
 const SAMPLED: &str =
     "source --m 2 --t 1 --seed 00000000000000000000000000000000 --batches 1 --table 1";
 
-// Runs that send, relay or receive a file.
-const ANSWERED: [Row; 21] = [
+// Runs that send, relay or receive a file, or check what was received.
+const ANSWERED: [Row; 37] = [
     Row {
         words: SMALL,
         front: 0,
@@ -187,6 +187,158 @@ const ANSWERED: [Row; 21] = [
         output: b"",
         notes: "sink: inconsistent packets=2 kept=2\n",
     },
+    // Twice 01 02 and three times 03 04, and then 01 02.
+    Row {
+        words: "sink",
+        front: 32,
+        change: AS_IT_IS,
+        more: b"P\0\0\0\0\x02\x03\x07\x08P\0\0\0\0\x01\0\x01\x02",
+        status: Status::Done,
+        output: b"\x01\x02\x03\x04",
+        notes: "sink: file length=4 packets=2 kept=2\n",
+    },
+    Row {
+        words: "sink",
+        front: 32,
+        change: AS_IT_IS,
+        more: b"P\0\0\0\0\x01\0\x01\x02P\0\0\0\0\x01\0\x01\x02P\0\0\0\0\x01\0\x01\x02P\0\0\0\0\x02\x03\x07\x08P\0\0\0\0\x02\x03\x07\x08P\0\0\0\0\x02\x03\x07\x08",
+        status: Status::Done,
+        output: b"\x01\x02\x03\x04",
+        notes: "sink: file length=4 packets=6 kept=2\n",
+    },
+    // The sum of both symbols, of which none is known.
+    Row {
+        words: "sink",
+        front: 32,
+        change: AS_IT_IS,
+        more: b"P\0\0\0\0\x01\x01\x02\x06",
+        status: Status::NeedMore,
+        output: b"",
+        notes: "sink: need-more open=0 packets=1 kept=1\n",
+    },
+    // A sum of no symbol, which isn't zero, and one that is.
+    Row {
+        words: "sink",
+        front: 32,
+        change: AS_IT_IS,
+        more: b"P\0\0\0\0\0\0\0\x01",
+        status: Status::Inconsistent,
+        output: b"",
+        notes: "sink: inconsistent packets=1 kept=0\n",
+    },
+    Row {
+        words: "sink",
+        front: 32,
+        change: AS_IT_IS,
+        more: b"P\0\0\0\0\0\0\0\0",
+        status: Status::NeedMore,
+        output: b"",
+        notes: "sink: need-more open=0 packets=1 kept=0\n",
+    },
+    // Packets of an empty file.
+    Row {
+        words: "sink",
+        front: 32,
+        change: (15, 0),
+        more: b"P\0\0\0\0\x01\0\0\0",
+        status: Status::Done,
+        output: b"",
+        notes: "sink: file length=0 packets=1 kept=1\n",
+    },
+    Row {
+        words: "sink",
+        front: 32,
+        change: (15, 0),
+        more: b"P\0\0\0\0\x01\0\0\x01",
+        status: Status::Inconsistent,
+        output: b"",
+        notes: "sink: inconsistent packets=1 kept=1\n",
+    },
+    // Twice 80 is 1d.
+    Row {
+        words: "sink",
+        front: 0,
+        change: AS_IT_IS,
+        more: b"BTS\x01\x01\x80\0\x01\0\0\0\0\0\0\0\x01\0\0\0\0\0\0\0\0\0\0\0\0\0\0\0\0P\0\0\0\0\x02\x1d",
+        status: Status::Done,
+        output: b"\x80",
+        notes: "sink: file length=1 packets=1 kept=1\n",
+    },
+    // Two packets of a batch of four symbols.
+    Row {
+        words: "sink",
+        front: 0,
+        change: AS_IT_IS,
+        more: b"BTS\x01\x02\x01\0\x01\0\0\0\0\0\0\0\x05\0\0\0\0\0\0\0\0\0\0\0\0\0\0\0\0P\0\0\0\0\x01\0\xcfP\0\0\0\0\0\x01\x8f",
+        status: Status::NeedMore,
+        output: b"",
+        notes: "sink: need-more open=0 packets=2 kept=2\n",
+    },
+    Row {
+        words: "check",
+        front: 0,
+        change: AS_IT_IS,
+        more: b"BTS\x01\x02\x01\0\x01\0\0\0\0\0\0\0\x05\0\0\0\0\0\0\0\0\0\0\0\0\0\0\0\0P\0\0\0\0\x01\0\xcfP\0\0\0\0\0\x01\x8f",
+        status: Status::NeedMore,
+        output: b"batch 0 degree 4 kept 2\nanswer need-more open 0\n",
+        notes: "check: need-more open=0 packets=2 kept=2\n",
+    },
+    Row {
+        words: "check",
+        front: 32,
+        change: AS_IT_IS,
+        more: b"P\0\0\0\0\x02\x03\x07\x08P\0\0\0\0\x01\0\x01\x02",
+        status: Status::Done,
+        output: b"batch 0 degree 2 kept 2\nanswer file\n",
+        notes: "check: file length=4 packets=2 kept=2\n",
+    },
+    Row {
+        words: "check --workers 64",
+        front: 32,
+        change: AS_IT_IS,
+        more: b"P\0\0\0\0\x01\0\x01\x02P\0\0\0\0\x02\x03\x07\x08P\0\0\0\0\x02\x03\x07\x08",
+        status: Status::Done,
+        output: b"batch 0 degree 2 kept 2\nanswer file\n",
+        notes: "check: file length=4 packets=3 kept=2\n",
+    },
+    Row {
+        words: "check",
+        front: 41,
+        change: AS_IT_IS,
+        more: b"",
+        status: Status::NeedMore,
+        output: b"batch 0 degree 2 kept 1\nanswer need-more open 1\n",
+        notes: "check: need-more open=1 packets=1 kept=1\n",
+    },
+    Row {
+        words: "check",
+        front: 41,
+        change: AS_IT_IS,
+        more: b"P\0\0\0\0\x01\0\x01\x03",
+        status: Status::Inconsistent,
+        output: b"batch 0 degree 2 kept 1\nanswer inconsistent\n",
+        notes: "check: inconsistent packets=2 kept=1\n",
+    },
+    // A batch of which no packet is kept has no line.
+    Row {
+        words: "check",
+        front: 32,
+        change: AS_IT_IS,
+        more: b"P\0\0\0\0\0\0\0\0",
+        status: Status::NeedMore,
+        output: b"answer need-more open 0\n",
+        notes: "check: need-more open=0 packets=1 kept=0\n",
+    },
+    // The numbers rise, in whatever order the packets come.
+    Row {
+        words: "check",
+        front: 32,
+        change: (15, 0),
+        more: b"P\0\0\0\x05\x01\0\0\0P\0\0\x01\0\x01\0\0\0P\0\0\0\x03\x01\0\0\0P\0\0\0\x05\0\x01\0\0",
+        status: Status::Done,
+        output: b"batch 3 degree 0 kept 1\nbatch 5 degree 0 kept 2\nbatch 256 degree 0 kept 1\nanswer file\n",
+        notes: "check: file length=0 packets=4 kept=4\n",
+    },
     Row {
         words: "show",
         front: 32,
@@ -272,5 +424,18 @@ fn writes_two_files_that_agree(rt: HostRuntime) -> Result<(), Fail> {
     );
     let both = run.output.written();
     assert!(rt; matches!(both, [1, 2, first, 1, 2, second] if first != second));
+    // The packet is the sum of both symbols.
+    let input = input_of(rt.alloc(), 32, AS_IT_IS, b"P\0\0\0\0\x01\x01\x02\x06")?;
+    let run = make_run(&rt, "sink --both", &input, 1000, [0, 0, 0])?;
+    assert_eq!(rt; run.status, Status::NeedMore);
+    assert_eq!(rt;
+        run.notes.written(),
+        b"sink: need-more open=0 packets=1 kept=1\n".as_slice()
+    );
+    let both = run.output.written();
+    assert!(rt;
+        matches!(both, [a, b, c, d, e, f, g, h]
+        if (a ^ c, b ^ d, e ^ g, f ^ h) == (2, 6, 2, 6) && (a, b) != (e, f))
+    );
     Ok(())
 }

@@ -20,7 +20,7 @@ packet at=32 batch=0 coefs=0100 payload=0102
 packet at=41 batch=0 coefs=0001 payload=0304
 ";
 
-const RUNS: [Calls; 4] = [
+const RUNS: [Calls; 5] = [
     // Two reads give the file, and the third its end. 11 writes for the header, 2 + 1 + 1 for each packet, and the flush.
     Calls {
         words: SMALL,
@@ -39,6 +39,16 @@ const RUNS: [Calls; 4] = [
         notes: "sink: file length=4 packets=2 kept=2\n",
         reads: 23,
         writes: 3,
+        reports: 14,
+    },
+    // As many reads. 12 writes for both lines, and the flush.
+    Calls {
+        words: "check",
+        input: &SMALL_OUTPUT,
+        output: b"batch 0 degree 2 kept 2\nanswer file\n",
+        notes: "check: file length=4 packets=2 kept=2\n",
+        reads: 23,
+        writes: 13,
         reports: 14,
     },
     // As many reads. 11 writes for the header, 2 + 1 + 1 for the packet, and the flush.

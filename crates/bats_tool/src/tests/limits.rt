@@ -43,8 +43,15 @@ fn takes_no_more_records(rt: HostRuntime) -> Result<(), Fail> {
     Ok(())
 }
 
-// The words of a relay with this rule, on so many batches of a file of one byte: its status, its notes line, and how many
-// bytes it writes.
+// The packet file of so many batches of 32 packets of a file of one byte, which is 7.
+fn many_packets<R: AllocGlobal + Threads + Sync>(rt: &R, batches: u32) -> Result<Ran, AllocError> {
+    let source = format!(in rt.alloc();
+        "source --m 32 --t 1 --table 1 --seed 00000000000000000000000000000000 --batches {batches}"
+    )?;
+    make_run(rt, &source, &[7], 1000, [0, 0, 0])
+}
+
+// The words of a relay with this rule, on so many batches: its status, its notes line, and how many bytes it writes.
 fn assert_relayed<R: AllocGlobal + Threads + Sync + Abort>(
     rt: &R,
     batches: u32,
@@ -53,13 +60,10 @@ fn assert_relayed<R: AllocGlobal + Threads + Sync + Abort>(
     notes: &str,
     size: usize,
 ) -> Result<(), Fail> {
-    let source = format!(in rt.alloc();
-        "source --m 32 --t 1 --table 1 --seed 00000000000000000000000000000000 --batches {batches}"
-    )?;
     let relay = format!(in rt.alloc();
         "relay --seed 00000000000000000000000000000000 --rule {rule}"
     )?;
-    let sent = make_run(rt, &source, &[7], 1000, [0, 0, 0])?;
+    let sent = many_packets(rt, batches)?;
     let run = make_run(rt, &relay, sent.output.written(), 1000, [0, 0, 0])?;
     assert_eq!(rt; run.notes.written(), notes.as_bytes(), "instead of {notes}");
     assert_eq!(rt; run.status, status, "at {notes}");
@@ -89,4 +93,23 @@ fn relays_as_many_as_may_be_kept(rt: HostRuntime) -> Result<(), Fail> {
         "bats: limit kept\n",
         0,
     )
+}
+
+#[test]
+fn receives_as_many_as_may_be_kept(rt: HostRuntime) -> Result<(), Fail> {
+    let sent = many_packets(&rt, 256)?;
+    let run = make_run(&rt, "sink", sent.output.written(), 1000, [0, 0, 0])?;
+    let notes = "sink: file length=1 packets=8192 kept=8192\n";
+    assert_left(&rt, &run, Status::Done, &[7], notes);
+    let mut twice = Vec::from_slice(rt.alloc(), sent.output.written())?;
+    twice.extend_from_slice(sent.output.written())?;
+    let run = make_run(&rt, "sink", &twice, 1000, [0, 0, 0])?;
+    let notes = "sink: file length=1 packets=16384 kept=8192\n";
+    assert_left(&rt, &run, Status::Done, &[7], notes);
+    let sent = many_packets(&rt, 257)?;
+    for words in ["sink", "check"] {
+        let run = make_run(&rt, words, sent.output.written(), 1000, [0, 0, 0])?;
+        assert_left(&rt, &run, Status::Limit, &[], "bats: limit kept\n");
+    }
+    Ok(())
 }

@@ -1,4 +1,4 @@
-// What each command refuses, as tables: the words, the input, or a packet that can't be taken yet.
+// What each command refuses, as tables: the words, or the input.
 use super::*;
 
 // Compares what a command leaves that refuses: it writes nothing.
@@ -22,6 +22,8 @@ fn refuses_other_words(rt: HostRuntime) -> Result<(), Fail> {
         "sink --workers 0",
         "sink --workers=2",
         "sink --workers 2 --workers 2",
+        "check --workers 65",
+        "check --both",
         "source --m 2 --m 2 --t 2 --seed 00000000000000000000000000000000 --batches 1",
     ] {
         // Nothing is read: the first read would fail.
@@ -80,18 +82,8 @@ fn refuses_other_inputs(rt: HostRuntime) -> Result<(), Fail> {
     ] {
         let input = input_of(rt.alloc(), front, change, more)?;
         assert_refused(&rt, "sink", &input, Status::Input, notes)?;
+        assert_refused(&rt, "check", &input, Status::Input, notes)?;
         assert_refused(&rt, RELAY, &input, Status::Input, notes)?;
-    }
-    Ok(())
-}
-
-#[test]
-fn takes_no_packet_that_is_not_plain(rt: HostRuntime) -> Result<(), Fail> {
-    assert_refused(&rt, "sink", SAMPLED_OUTPUT, Status::NotBuilt, NOT_BUILT)?;
-    for front in [32, 41] {
-        // The byte after it begins no record, and is never reached.
-        let input = input_of(rt.alloc(), front, AS_IT_IS, b"P\0\0\0\0\x02\0\x02\x04Q")?;
-        assert_refused(&rt, "sink", &input, Status::NotBuilt, NOT_BUILT)?;
     }
     Ok(())
 }

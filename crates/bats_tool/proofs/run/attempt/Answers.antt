@@ -14,6 +14,11 @@ sink-requires-after_bounds g c _ _ =
     subst (λ (command : Command). InRanges command) c.in-Some-Sink.field-0-is
     (subst (λ (x : Option Command). IfSome x InRanges) c.in-Some-Sink.is c.parse.ensures.ranges)
 
+pub check-requires-after_bounds : goal.check-requires-after_bounds
+check-requires-after_bounds g c _ _ =
+    subst (λ (command : Command). InRanges command) c.in-Some-Check.field-0-is
+    (subst (λ (x : Option Command). IfSome x InRanges) c.in-Some-Check.is c.parse.ensures.ranges)
+
 pub relay-requires : goal.relay-requires
 relay-requires g c =
     (subst (λ (command : Command). InRanges command) c.in-Some-Relay.field-0-is
