@@ -25,7 +25,7 @@ use Rattle.tool_run.proofs.Begun.{IsBegun-whole, IsBegun-front}
 use Rattle.tool_records.specs.declared.walking.Taken.{Taken}
 use Rattle.tool_records.specs.declared.walking.Taken.TheVariants as takes
 use Rattle.tool_records.specs.declared.walking.WalkEnd.TheVariants as walks
-use Rattle.tool_records.specs.Keeping.{AreFew, RefusesAfterFew, PassesLimit, StopsKeeping, kept_limit_ending, takes_few}
+use Rattle.tool_records.specs.Keeping.{AreFew, RefusesAfterFew, PassesLimit, StopsKeeping, kept_limit_ending, takes_few, keeping_promise}
 use Rattle.tool_records.specs.Reading.{refused_ending}
 use Rattle.tool_records.specs.ReadsRecords.{ReadsRecords}
 use Rattle.tool_records.specs.Walk.{Gives, GivenSoFar, ReadsLast, Walks, WalksToEnd, WalksToRefusal, WalksToItem, WalksToStop}
@@ -45,15 +45,6 @@ KeepsFewAs session list (Err stop) = (stop ≡ stops.Memory) × CameAfterFew ses
 pub record KeepsFew (session : SessionData) (list : List Item) (start now : OutputState) (result : Result Taken Stop) : Type 0 where
   pub as_far : KeepsFewAs session list result
   pub nothing_written : now ≡ start
-
--- what a command promises that has these endings: it reads while few packets are kept, and then writes
-abbrev pub keeping_promise : (List ℕ → Ending → Type 0) → Promise
-keeping_promise ends = record {
-  ends = ends;
-  reads = ReadsRecords takes_few;
-  partly = IsBegun ends;
-  partly_read = λ before after part. part ≡ [];
-}
 
 pub keeping_promise-keeps : (ends : List ℕ → Ending → Type 0) → Keeps (keeping_promise ends)
 keeping_promise-keeps ends = record { whole = λ input ending e. IsBegun-whole ends input ending e }

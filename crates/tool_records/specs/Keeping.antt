@@ -14,7 +14,9 @@ use Rattle.bats_model.specs.declared.read_end.ReadEnd.{ReadEnd}
 use Rattle.bats_batch.specs.Held.{max_kept}
 use Rattle.tool_run.specs.declared.status.Status.TheVariants as statuses
 use Rattle.tool_run.specs.Ending.{Ending, refusal, in_part}
+use Rattle.tool_run.specs.Promise.{Promise, IsBegun}
 use Rattle.tool_records.specs.Reading.{IsReading, refused_ending}
+use Rattle.tool_records.specs.ReadsRecords.{ReadsRecords}
 
 -- the numbers are those of the batches that have a kept packet, rising
 pub record AreHeld (packets : List Packet) (numbers : List ℕ) : Type 0 where
@@ -59,3 +61,13 @@ StopsKeeping input ending = RefusesAfterFew input ending ⊎ PassesLimit input e
 -- the command reads on while no more packets are kept than may be
 abbrev pub takes_few : SessionData → List Item → Type 0
 takes_few session list = AreFew (Some session) list
+
+-- what a command promises that keeps packets and has these endings: it reads a packet file record by record, no further than
+-- the first packet that would be kept when no more may be, and then writes
+abbrev pub keeping_promise : (List ℕ → Ending → Type 0) → Promise
+keeping_promise ends = record {
+  ends = ends;
+  reads = ReadsRecords takes_few;
+  partly = IsBegun ends;
+  partly_read = λ before after part. part ≡ [];
+}

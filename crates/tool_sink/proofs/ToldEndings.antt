@@ -24,11 +24,11 @@ use Rattle.tool_run.specs.Streams.{Ends}
 use Rattle.tool_run.specs.Writes.{Writes}
 use Rattle.tool_run.proofs.Writing.{Writes-same}
 use Rattle.tool_records.specs.declared.walking.WalkEnd.TheVariants as walks
-use Rattle.tool_records.specs.Keeping.{StopsKeeping}
+use Rattle.tool_records.specs.Keeping.{StopsKeeping, keeping_promise}
 use Rattle.tool_records.specs.Walk.{Walks, WalksToEnd}
 use Rattle.tool_records.proofs.HeldNumbers.{numbers_of, AreHeld-numbers}
 use Rattle.tool_records.proofs.KeptItems.{packets_of-within}
-use Rattle.tool_records.proofs.KeptWalks.{EndsAs, keeping_promise, Attempts-ended, Attempts-unwritten}
+use Rattle.tool_records.proofs.KeptWalks.{EndsAs, Attempts-ended, Attempts-unwritten}
 use Rattle.tool_sink.specs.Answers.{answer_line, answer_status}
 use Rattle.tool_sink.specs.Sink.{IsSinkEnding, answer_ending, answer_output, sink_promise}
 use Rattle.tool_sink.specs.Check.{IsCheckEnding, answer_text, check_ending, check_output, check_promise}

@@ -1,5 +1,5 @@
 -- How `check` ends on an input, and what it promises.
-use Rattle.std.specs.Prelude.{ℕ, ◌≡◌, ◌⊎◌, List, [], ◌++◌, length, flat_map, codes, Some}
+use Rattle.std.specs.Prelude.{ℕ, ◌≡◌, ◌⊎◌, List, ◌++◌, length, flat_map, codes, Some}
 use Rattle.std.specs.Fmt.{decimal}
 use Rattle.bats_model.specs.Session.{SessionData}
 use Rattle.bats_model.specs.Batch.{batch_of, degree_of}
@@ -11,9 +11,8 @@ use Rattle.bats_model.specs.declared.item.Item.{Item}
 use Rattle.bats_model.specs.declared.answer.Answer.{Answer}
 use Rattle.bats_model.specs.declared.answer.Answer.TheVariants.{File, Inconsistent, NeedMore}
 use Rattle.tool_run.specs.Ending.{Ending, to_end}
-use Rattle.tool_run.specs.Promise.{Promise, IsBegun}
-use Rattle.tool_records.specs.Keeping.{AreFew, AreHeld, StopsKeeping, takes_few}
-use Rattle.tool_records.specs.ReadsRecords.{ReadsRecords}
+use Rattle.tool_run.specs.Promise.{Promise}
+use Rattle.tool_records.specs.Keeping.{AreFew, AreHeld, StopsKeeping, keeping_promise}
 use Rattle.tool_sink.specs.Answers.{answer_line, answer_status}
 
 -- the line of a held batch: its number, its degree, and how many of its packets are kept
@@ -58,11 +57,6 @@ pub record CheckTells (input : List ℕ) (ending : Ending) : Type 0 where
 abbrev pub IsCheckEnding : List ℕ → Ending → Type 0
 IsCheckEnding input ending = CheckTells input ending ⊎ StopsKeeping input ending
 
--- what `check` promises: it reads as `sink` does, and then writes
+-- what `check` promises
 abbrev pub check_promise : Promise
-check_promise = record {
-  ends = IsCheckEnding;
-  reads = ReadsRecords takes_few;
-  partly = IsBegun IsCheckEnding;
-  partly_read = λ before after part. part ≡ [];
-}
+check_promise = keeping_promise IsCheckEnding

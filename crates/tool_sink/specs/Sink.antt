@@ -9,9 +9,8 @@ use Rattle.bats_model.specs.declared.item.Item.{Item}
 use Rattle.bats_model.specs.declared.answer.Answer.{Answer}
 use Rattle.bats_model.specs.declared.answer.Answer.TheVariants.{File, Inconsistent, NeedMore}
 use Rattle.tool_run.specs.Ending.{Ending, to_end}
-use Rattle.tool_run.specs.Promise.{Promise, IsBegun}
-use Rattle.tool_records.specs.Keeping.{AreFew, StopsKeeping, takes_few}
-use Rattle.tool_records.specs.ReadsRecords.{ReadsRecords}
+use Rattle.tool_run.specs.Promise.{Promise}
+use Rattle.tool_records.specs.Keeping.{AreFew, StopsKeeping, keeping_promise}
 use Rattle.tool_sink.specs.Answers.{answer_line, answer_status}
 
 -- what is written of an answer: the file, and the two files of need-more where both are asked for
@@ -44,12 +43,6 @@ pub record SinkAnswers (both : Bool) (input : List ℕ) (ending : Ending) : Type
 abbrev pub IsSinkEnding : Bool → List ℕ → Ending → Type 0
 IsSinkEnding both input ending = SinkAnswers both input ending ⊎ StopsKeeping input ending
 
--- what `sink` promises: it reads a packet file record by record, no further than the first packet that would be kept when
--- no more may be, and then writes
+-- what `sink` promises
 abbrev pub sink_promise : Bool → Promise
-sink_promise both = record {
-  ends = IsSinkEnding both;
-  reads = ReadsRecords takes_few;
-  partly = IsBegun (IsSinkEnding both);
-  partly_read = λ before after part. part ≡ [];
-}
+sink_promise both = keeping_promise (IsSinkEnding both)

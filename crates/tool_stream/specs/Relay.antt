@@ -1,5 +1,5 @@
 -- What `relay` sends, how it ends on an input, and what it promises.
-use Rattle.std.specs.Prelude.{ℕ, ◌≡◌, ◌⊎◌, Bool, List, [], ◌++◌, length, flat_map, codes, Some, if◌then◌else◌}
+use Rattle.std.specs.Prelude.{ℕ, ◌≡◌, ◌⊎◌, Bool, List, ◌++◌, length, flat_map, codes, Some, if◌then◌else◌}
 use Rattle.std.specs.Fmt.{decimal}
 use Rattle.bats_model.specs.Session.{SessionData}
 use Rattle.bats_model.specs.Kept.{kept_of, kept_count}
@@ -11,9 +11,8 @@ use Rattle.bats_model.specs.declared.item.Item.{Item}
 use Rattle.bats_relay.specs.Rule.{fixed_count, extra_count}
 use Rattle.tool_run.specs.declared.status.Status.TheVariants as statuses
 use Rattle.tool_run.specs.Ending.{Ending, to_end}
-use Rattle.tool_run.specs.Promise.{Promise, IsBegun}
-use Rattle.tool_records.specs.Keeping.{AreFew, AreHeld, StopsKeeping, takes_few}
-use Rattle.tool_records.specs.ReadsRecords.{ReadsRecords}
+use Rattle.tool_run.specs.Promise.{Promise}
+use Rattle.tool_records.specs.Keeping.{AreFew, AreHeld, StopsKeeping, keeping_promise}
 
 -- outputs of a batch, at most: as many as its coefficients, 32 at most, and 64 more
 abbrev pub most_outputs : ℕ
@@ -72,12 +71,6 @@ abbrev pub IsRelayEnding : List ℕ → Bool → ℕ → List ℕ → Ending →
 IsRelayEnding seed extra count input ending =
     RelaySends seed extra count input ending ⊎ StopsKeeping input ending
 
--- what `relay` promises: it reads a packet file record by record, no further than the first packet that would be kept
--- when no more may be, and then writes
+-- what `relay` promises
 abbrev pub relay_promise : List ℕ → Bool → ℕ → Promise
-relay_promise seed extra count = record {
-  ends = IsRelayEnding seed extra count;
-  reads = ReadsRecords takes_few;
-  partly = IsBegun (IsRelayEnding seed extra count);
-  partly_read = λ before after part. part ≡ [];
-}
+relay_promise seed extra count = keeping_promise (IsRelayEnding seed extra count)
