@@ -14,3 +14,4 @@ pub mod PacketFile
 pub mod Refusal
 pub mod Kept
 pub mod Relay
+pub mod Peeling
