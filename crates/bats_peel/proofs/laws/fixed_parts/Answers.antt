@@ -1,0 +1,5 @@
+use Rattle.bats_peel.proofs.Fixing.{Fixes-subset}
+use Rattle.bats_peel.proofs.laws.fixed_parts.Goals as goal
+
+pub returns : goal.returns
+returns c = Fixes-subset
