@@ -27,7 +27,7 @@ order-then session numbers s t u (inr h) (inl k) = let same = h.0 in inl (omega 
 order-then session numbers s t u (inr h) (inr k) =
     let low = h.1 in let high = k.1 in let one = h.0 in let two = k.0 in inr (two ∙ one, omega arith)
 
-cases_before : (session : SessionData) (numbers : List ℕ) (s u : ℕ) → s < u
+pub cases_before : (session : SessionData) (numbers : List ℕ) (s u : ℕ) → s < u
     → ComesBefore session numbers s u ⊎ ComesBefore session numbers u s
 cases_before session numbers s u low = elim (cases_order (held_count session numbers u) (held_count session numbers s)) [
   | inl same ↦ inl (inr (same, low))
@@ -120,14 +120,14 @@ no_other_list session packets one other h k =
 -- ---- the first symbol outside, where there is one
 
 -- the first of the order among the symbols below n outside a set
-record IsBest (session : SessionData) (numbers : List ℕ) (stuck : List Bool) (n : ℕ) : Type 0 where
-  symbol : ℕ
-  below : symbol < n
-  outside : is_in stuck symbol ≡ false
-  first : (u : ℕ) → u < n → is_in stuck u ≡ false → u ≢ symbol → ComesBefore session numbers symbol u
+pub record IsBest (session : SessionData) (numbers : List ℕ) (stuck : List Bool) (n : ℕ) : Type 0 where
+  pub symbol : ℕ
+  pub below : symbol < n
+  pub outside : is_in stuck symbol ≡ false
+  pub first : (u : ℕ) → u < n → is_in stuck u ≡ false → u ≢ symbol → ComesBefore session numbers symbol u
 
 -- one symbol more, that is in the set
-keep_best : (session : SessionData) (numbers : List ℕ) (stuck : List Bool) (n : ℕ) → is_in stuck n ≡ true
+pub keep_best : (session : SessionData) (numbers : List ℕ) (stuck : List Bool) (n : ℕ) → is_in stuck n ≡ true
     → IsBest session numbers stuck n → IsBest session numbers stuck (suc n)
 keep_best session numbers stuck n inside best = record {
   symbol = best.symbol;
@@ -140,7 +140,7 @@ keep_best session numbers stuck n inside best = record {
 }
 
 -- one that comes after the best
-still_best : (session : SessionData) (numbers : List ℕ) (stuck : List Bool) (n : ℕ) → (best : IsBest session numbers stuck n)
+pub still_best : (session : SessionData) (numbers : List ℕ) (stuck : List Bool) (n : ℕ) → (best : IsBest session numbers stuck n)
     → ComesBefore session numbers best.symbol n → IsBest session numbers stuck (suc n)
 still_best session numbers stuck n best before = record {
   symbol = best.symbol;
@@ -153,7 +153,7 @@ still_best session numbers stuck n best before = record {
 }
 
 -- one that comes before it
-new_best : (session : SessionData) (numbers : List ℕ) (stuck : List Bool) (n : ℕ) → is_in stuck n ≡ false
+pub new_best : (session : SessionData) (numbers : List ℕ) (stuck : List Bool) (n : ℕ) → is_in stuck n ≡ false
     → (best : IsBest session numbers stuck n) → ComesBefore session numbers n best.symbol → IsBest session numbers stuck (suc n)
 new_best session numbers stuck n out best before = record {
   symbol = n;
@@ -166,7 +166,7 @@ new_best session numbers stuck n out best before = record {
 }
 
 -- the first that is outside
-only_best : (session : SessionData) (numbers : List ℕ) (stuck : List Bool) (n : ℕ) → is_in stuck n ≡ false
+pub only_best : (session : SessionData) (numbers : List ℕ) (stuck : List Bool) (n : ℕ) → is_in stuck n ≡ false
     → ((s : ℕ) → s < n → is_in stuck s ≡ true) → IsBest session numbers stuck (suc n)
 only_best session numbers stuck n out all = record {
   symbol = n;
@@ -274,7 +274,7 @@ ended session packets numbers front stuck so_far is all = record {
   all = all;
 }
 
-best-first : (session : SessionData) (packets : List Packet) (numbers front : List ℕ) (stuck : List Bool)
+pub best-first : (session : SessionData) (packets : List Packet) (numbers front : List ℕ) (stuck : List Bool)
     → IsStuckSet session packets (set_of session front) stuck → (best : IsBest session numbers stuck (symbols_of session))
     → IsFirstOutside session packets numbers front best.symbol
 best-first session packets numbers front stuck is best = record {

@@ -4,3 +4,4 @@ pub mod StuckSets
 pub mod HeldNumbers
 pub mod InactiveLists
 pub mod FewPackets
+pub mod HeldSteps
