@@ -18,7 +18,7 @@ use Rattle.bats_model.specs.Peeling.{is_in, local_value, AreHidden, Fixes}
 use Rattle.bats_model.specs.declared.packet.Packet.{Packet}
 use Rattle.bats_model.proofs.EachBatch.{entry_of-lt}
 use Rattle.bats_peel.specs.OneSet.{unknown_count}
-use Rattle.bats_peel.proofs.Fixing.{degree_at, symbol_at}
+use Rattle.bats_peel.proofs.FixedContributors.{degree_at, symbol_at}
 use Rattle.bats_peel.proofs.HeldNumbers.{kept_by, in_range}
 
 -- ---- a packet's equation over the contributors of its batch

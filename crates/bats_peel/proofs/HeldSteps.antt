@@ -16,7 +16,7 @@ use Rattle.bats_batch.specs.Held.{HeldData, HeldBatch, HaveRisingNumbers, Stands
 use Rattle.bats_batch.proofs.HeldBatches.{kept_at-stands}
 use Rattle.bats_sampler.proofs.DistinctContributors.{AreContributors-batch_of}
 use Rattle.bats_peel.proofs.SymbolSets.{with_symbols-append, with_symbols-one, with_symbols-push, length-with_symbols, found_at}
-use Rattle.bats_peel.proofs.Fixing.{degree_at, symbol_at}
+use Rattle.bats_peel.proofs.FixedContributors.{degree_at, symbol_at}
 use Rattle.bats_peel.proofs.StuckSets.{IsEnd, leads-size, goes_on}
 
 -- ---- the numbers of held batches

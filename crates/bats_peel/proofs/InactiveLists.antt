@@ -76,6 +76,14 @@ begin-within : (session : SessionData) (packets : List Packet) (numbers list : L
 begin-within session packets numbers list h =
     omega (arith, length-take (length (first_inactive session)) list, ap (λ (l : List ℕ). length l) h.begins)
 
+-- no symbol is outside a stuck set that has all
+none_outside : (session : SessionData) (packets : List Packet) (numbers symbols : List ℕ) (s : ℕ) (stuck : List Bool)
+    → IsStuckSet session packets (set_of session symbols) stuck → HasAllSymbols session stuck
+    → IsFirstOutside session packets numbers symbols s → ⊥
+none_outside session packets numbers symbols s stuck is all next =
+    let same : next.stuck ≡ stuck = no_other_stuck session packets (set_of session symbols) next.stuck stuck next.is_stuck is in
+    both_ways (is_in next.stuck s) next.outside (subst (λ x. is_in x s ≡ true) (sym same) (all s next.below))
+
 -- none goes on after the other has ended
 no_longer : (session : SessionData) (packets : List Packet) (numbers one other : List ℕ) → AreInactive session packets numbers one
     → AreInactive session packets numbers other → (stuck : List Bool) → IsStuckSet session packets (set_of session one) stuck
@@ -87,12 +95,10 @@ no_longer session packets numbers one other h k stuck is all longer =
     let fronts : take (length one) one ≡ take (length one) other =
     subst (λ n. take n one ≡ take n other) e
     (same_fronts session packets numbers one other h k (length one - first) (omega arith) (omega arith)) in
-    let next : IsFirstOutside session packets numbers one (get_or other (length one) 0) =
-    subst (λ front. IsFirstOutside session packets numbers front (get_or other (length one) 0))
-    (sym fronts ∙ take_all (length one) one (omega arith)) (k.further (length one) begun longer) in
-    let same : next.stuck ≡ stuck = no_other_stuck session packets (set_of session one) next.stuck stuck next.is_stuck is in
-    let s : ℕ = get_or other (length one) 0 in
-    both_ways (is_in next.stuck s) next.outside (subst (λ x. is_in x s ≡ true) (sym same) (all s next.below))
+    let front_is : take (length one) other ≡ one = sym fronts ∙ take_all (length one) one (omega arith) in
+    none_outside session packets numbers one (get_or other (length one) 0) stuck is all
+    (subst (λ front. IsFirstOutside session packets numbers front (get_or other (length one) 0)) {y = one} front_is
+    (k.further (length one) begun longer))
 
 same_list : (session : SessionData) (packets : List Packet) (numbers one other : List ℕ) → AreInactive session packets numbers one
     → AreInactive session packets numbers other → length one ≡ length other → one ≡ other

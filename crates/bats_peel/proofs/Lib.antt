@@ -1,7 +1,8 @@
 pub mod SymbolSets
-pub mod Fixing
+pub mod FixedContributors
 pub mod StuckSets
 pub mod HeldNumbers
 pub mod InactiveLists
 pub mod FewPackets
 pub mod HeldSteps
+pub mod InactiveEntries

@@ -11,7 +11,7 @@ use Rattle.bats_model.specs.declared.packet.Packet.{Packet}
 use Rattle.bats_model.proofs.EachBatch.{contributor_of-lt}
 use Rattle.bats_peel.specs.OneSet.{IsSubset, HasOneStuckSet}
 use Rattle.bats_peel.proofs.SymbolSets.{length-with_symbols, added_is_in, cases_in, subset-itself, subset-then, subset-with, with-within, same_sets, outside_count, fewer_outside}
-use Rattle.bats_peel.proofs.Fixing.{degree_at, symbol_at, Fixes-subset, cases_fixes}
+use Rattle.bats_peel.proofs.FixedContributors.{degree_at, symbol_at, Fixes-subset, cases_fixes}
 
 -- no step leads on from the set
 abbrev pub IsEnd : SessionData → List Packet → List Bool → Type 0
