@@ -24,14 +24,13 @@ use Rattle.bats_model.specs.Session.{SessionData, symbols_of}
 use Rattle.bats_model.specs.Values.{packet_value, AreByteValues, Satisfies}
 use Rattle.bats_model.specs.declared.packet.Packet.{Packet}
 use Rattle.bats_model.proofs.SymbolValues.{combined_value-lt}
-use Rattle.bats_batch.specs.Held.{HeldBatch, row_count}
+use Rattle.bats_batch.specs.Held.{HeldBatch, row_count, kept_packets}
 use Rattle.bats_dense.specs.declared.dense.Dense.{Dense}
 use Rattle.bats_dense.specs.Reduced.{AreTargets, IsReduced}
 use Rattle.bats_dense.specs.Kept.{KeepsSolutions}
 use Rattle.bats_dense.specs.Completed.{free_value, IsCompleted}
 use Rattle.bats_dense.proofs.Completing.{Solves-completed}
 use Rattle.bats_dense.proofs.ResultLemmas.{ArePivots-last}
-use Rattle.bats_decode.specs.Decoder.{kept_packets}
 use Rattle.bats_decode.specs.declared.elimination.Place.{Place}
 use Rattle.bats_decode.specs.declared.elimination.Place.TheVariants.{Row, Free}
 use Rattle.bats_decode.specs.declared.elimination.Elimination.{Elimination}

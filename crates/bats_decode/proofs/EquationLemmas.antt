@@ -24,8 +24,7 @@ use Rattle.bats_model.specs.Values.{coded_value, combined_term, combined_value, 
 use Rattle.bats_model.specs.declared.packet.Packet.{Packet}
 use Rattle.bats_model.proofs.EachBatch.{entry_of-lt, contributor_of-lt}
 use Rattle.bats_model.proofs.SystematicBatches.{columns-batch_of}
-use Rattle.bats_batch.specs.Held.{HeldBatch, no_batch, batch_at, row_count}
-use Rattle.bats_decode.specs.Decoder.{kept_packets}
+use Rattle.bats_batch.specs.Held.{HeldBatch, no_batch, batch_at, row_count, kept_packets}
 use Rattle.bats_decode.specs.steps.Equations.{AreEquations, contributor_factor, contributor_term, AddsTerms, AreBegun}
 
 -- ---- the value of a row

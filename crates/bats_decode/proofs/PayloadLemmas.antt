@@ -11,8 +11,7 @@ use Rattle.gf_rows.specs.Operation.{FitsRows, op_on_rows}
 use Rattle.gf_rows.specs.Plan.{plan_on_rows}
 use Rattle.gf_rows.proofs.PlanLemmas.{plan_on_rows-push, length-plan_on_rows}
 use Rattle.bats_model.specs.declared.packet.Packet.{Packet}
-use Rattle.bats_batch.specs.Held.{HeldBatch, no_batch, batch_at, row_count}
-use Rattle.bats_decode.specs.Decoder.{kept_packets}
+use Rattle.bats_batch.specs.Held.{HeldBatch, no_batch, batch_at, row_count, kept_packets}
 use Rattle.bats_decode.specs.steps.Replayed.{payloads_of}
 
 -- ---- held batches

@@ -17,11 +17,11 @@ use Rattle.bats_model.specs.declared.packet.Packet.{Packet}
 use Rattle.bats_model.specs.declared.answer.Answer.{Answer}
 use Rattle.bats_model.specs.declared.answer.Answer.TheVariants.{File, Inconsistent, NeedMore}
 use Rattle.bats_model.proofs.KeptSpans.{All-kept_of}
-use Rattle.bats_batch.specs.Held.{HeldBatch, HeldData, batch_at, no_batch}
+use Rattle.bats_batch.specs.Held.{HeldBatch, HeldData, batch_at, no_batch, kept_packets}
 use Rattle.bats_batch.specs.Held.{StandsFor as HoldsFor}
 use Rattle.bats_batch.proofs.HeldAgreement.{held-agreement}
 use Rattle.bats_batch.proofs.HeldBatches.{kept_at-stands}
-use Rattle.bats_decode.specs.Decoder.{DecoderData, StandsFor, kept_packets}
+use Rattle.bats_decode.specs.Decoder.{DecoderData, StandsFor}
 use Rattle.bats_decode.specs.SolvingPlan.{PlanFollows}
 use Rattle.bats_decode.specs.declared.elimination.Place.{Place}
 use Rattle.bats_decode.specs.declared.elimination.Place.TheVariants.{Row, Free}

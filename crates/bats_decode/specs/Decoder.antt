@@ -1,8 +1,8 @@
 -- What a decoder holds, and which received packets it stands for.
-use Rattle.std.specs.Prelude.{ℕ, ◌≡◌, ◌↔◌, ◌-◌, ◌^◌, Bool, true, List, length, min, flat_map}
+use Rattle.std.specs.Prelude.{ℕ, ◌≡◌, ◌↔◌, ◌-◌, ◌^◌, Bool, true, List, length, min}
 use Rattle.bats_model.specs.Kept.{HasContradiction}
 use Rattle.bats_model.specs.declared.packet.Packet.{Packet}
-use Rattle.bats_batch.specs.Held.{HeldBatch, HeldData}
+use Rattle.bats_batch.specs.Held.{HeldData}
 use Rattle.bats_batch.specs.Held.{StandsFor as HoldsFor}
 
 -- the held batches, whether some packet contradicted those kept before it, and how many packets were received
@@ -10,10 +10,6 @@ pub record DecoderData : Type 0 where
   pub held : HeldData
   pub contradicted : Bool
   pub packets : ℕ
-
--- all kept packets, in the order of the payload rows: by rising batch number and, within a batch, in the order kept
-unfoldable pub kept_packets : List HeldBatch → List Packet
-kept_packets batches = flat_map (λ batch. batch.kept) batches
 
 -- the decoder stands for these received packets: its held batches do, it knows whether some packet contradicts, and their
 -- number is counted up to the last u64

@@ -56,10 +56,10 @@ ghost use Rattle.bats_model.specs.Kept.{kept_count};
 ghost use Rattle.bats_model.specs.declared.packet.Packet.{Packet};
 ghost use Rattle.bats_model.specs.declared.taken.Taken.TheVariants.{Kept};
 ghost use Rattle.bats_batch.specs.Basis.{IsTaken};
-ghost use Rattle.bats_batch.specs.Held.{kept_at, max_kept, row_count};
+ghost use Rattle.bats_batch.specs.Held.{kept_at, max_kept, row_count, kept_packets};
 ghost use Rattle.bats_batch.specs.declared.held.HeldEnd.TheVariants.{Full};
 ghost use Rattle.gf_rows.specs.Operation.{FitsRows};
-ghost use Rattle.bats_decode.specs.Decoder.{StandsFor, kept_packets};
+ghost use Rattle.bats_decode.specs.Decoder.{StandsFor};
 ghost use Rattle.bats_decode.specs.SolvingPlan.{PlanFollows};
 ghost use Rattle.bats_decode.specs.steps.SymbolRows.{symbol_rows, rows_with};
 

@@ -2,9 +2,8 @@
 ghost use Rattle.std.specs.Prelude.{◌≡◌, ◌≤◌, ◌+◌, ◌*◌, IfOk, length};
 ghost use Rattle.std.specs.List.{range_with_len};
 ghost use Rattle.bats_model.specs.Session.{symbols_of};
-ghost use Rattle.bats_batch.specs.Held.{row_count};
+ghost use Rattle.bats_batch.specs.Held.{row_count, kept_packets};
 ghost use Rattle.bats_dense.specs.Reduced.{AreSplit};
-ghost use Rattle.bats_decode.specs.Decoder.{kept_packets};
 ghost use Rattle.bats_decode.specs.steps.Eliminated.{ArePlaces, IsEliminated};
 
 use crate::equations::equations;

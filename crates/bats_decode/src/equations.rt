@@ -4,8 +4,7 @@ ghost use Rattle.gf_rows.specs.Matrix.{IsMatrix};
 ghost use Rattle.bats_model.specs.Session.{SessionData};
 ghost use Rattle.bats_model.specs.Batch.{batch_of, degree_of};
 ghost use Rattle.bats_model.specs.declared.packet.Packet.{Packet};
-ghost use Rattle.bats_batch.specs.Held.{max_kept};
-ghost use Rattle.bats_decode.specs.Decoder.{kept_packets};
+ghost use Rattle.bats_batch.specs.Held.{max_kept, kept_packets};
 ghost use Rattle.bats_decode.specs.steps.Equations.{AreEquations, AddsTerms, AreBegun};
 
 use bats_batch::{Basis, Held};

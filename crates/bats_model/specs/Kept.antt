@@ -1,6 +1,8 @@
 -- New packets, kept packets and packets that contradict these. Numbers are compared as they are: that coefficients and
 -- payload are bytes is part of a packet's shape.
-use Rattle.std.specs.Prelude.{ℕ, ◌≡◌, ◌==◌, not, if◌then◌else◌, Bool, List, [], ◌∷◌, ◌++◌, map, filter, length, take, slice_get, Option, Some}
+use Rattle.std.specs.Prelude.{ℕ, ◌≡◌, ◌<◌, ◌↔◌, ◌==◌, not, if◌then◌else◌, Bool, List, [], ◌∷◌, ◌++◌, map, filter, length, take, slice_get, Option, Some}
+use Rattle.std.specs.List.{Contains}
+use Rattle.std.specs.List.Sorted.{IsStrictlyIncreasing}
 use Rattle.std.specs.Str.{bytes_eq}
 use Rattle.gf_core.specs.Bytes.{some_bytes}
 use Rattle.gf_core.specs.Combinations.{combination, IsInSpan}
@@ -48,6 +50,11 @@ kept_of batch packets = packets_in batch (new_after [] packets)
 -- how many packets of a list are kept
 abbrev pub kept_count : List Packet → ℕ
 kept_count packets = length (new_after [] packets)
+
+-- the numbers are those of the batches that have a kept packet, rising
+pub record AreHeld (packets : List Packet) (numbers : List ℕ) : Type 0 where
+  pub rising : IsStrictlyIncreasing numbers
+  pub held : (number : ℕ) → Contains numbers number ↔ 0 < length (kept_of number packets)
 
 -- ---- contradictions
 

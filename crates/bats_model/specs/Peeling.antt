@@ -1,11 +1,10 @@
 -- Peeling with inactivation: which symbols packets give once others are taken as known, and which must be taken so.
 use Rattle.std.specs.Prelude.{ℕ, ◌≡◌, ◌≢◌, ◌<◌, ◌≤◌, ◌+◌, ◌-◌, ◌*◌, ◌/◌, ◌%◌, ◌==◌, ◌||◌, ◌⊎◌, ◌↔◌, max, if◌then◌else◌, Bool, true, false, List, [], ◌∷◌, All, length, map, take, slice_index, slice_index_or}
-use Rattle.std.specs.List.{range_with_len, list_any, count_by, fold, Contains}
-use Rattle.std.specs.List.Sorted.{IsStrictlyIncreasing}
+use Rattle.std.specs.List.{range_with_len, list_any, count_by, fold}
 use Rattle.gf_core.specs.Field.{gf_mul, gf_sum}
 use Rattle.bats_model.specs.Session.{SessionData, symbols_of}
 use Rattle.bats_model.specs.Batch.{batch_of, degree_of, contributor_of, entry_of}
-use Rattle.bats_model.specs.Kept.{new_after, kept_of}
+use Rattle.bats_model.specs.Kept.{new_after, kept_of, AreHeld}
 use Rattle.bats_model.specs.declared.packet.Packet.{Packet}
 
 -- ---- sets of symbols
@@ -75,11 +74,6 @@ pub record IsStuckSet (session : SessionData) (packets : List Packet) (set stuck
   pub ends : (number : ℕ) → ¬ IsStep session packets stuck number
 
 -- ---- the inactive list
-
--- the numbers are those of the batches that have a kept packet, rising
-pub record AreHeld (packets : List Packet) (numbers : List ℕ) : Type 0 where
-  pub rising : IsStrictlyIncreasing numbers
-  pub held : (number : ℕ) → Contains numbers number ↔ 0 < length (kept_of number packets)
 
 -- how many of the batches of these numbers have symbol s as a contributor
 abbrev pub held_count : SessionData → List ℕ → ℕ → ℕ

@@ -8,8 +8,7 @@ use Rattle.std.proofs.lemmas.List.Elements.{filter_passes}
 use Rattle.std.proofs.lemmas.List.FromFn.{length-range_with_len, get_or-range_with_len}
 use Rattle.std.proofs.lemmas.List.Kept.{AllPairs-from_increasing, IsStrictlyIncreasing-filter}
 use Rattle.std.proofs.lemmas.Map.Made.{Contains-tail}
-use Rattle.bats_model.specs.Kept.{new_after, kept_of}
-use Rattle.bats_model.specs.Peeling.{AreHeld}
+use Rattle.bats_model.specs.Kept.{new_after, kept_of, AreHeld}
 use Rattle.bats_model.specs.declared.packet.Packet.{Packet}
 
 -- ---- rising lists of the same members are one

@@ -9,8 +9,8 @@ use Rattle.std.proofs.lemmas.List.Elements.{All-contains, Contains-get_or, Conta
 use Rattle.std.proofs.lemmas.List.Sums.{sum_by-cons, sum_by_more}
 use Rattle.bats_model.specs.Session.{SessionData, symbols_of}
 use Rattle.bats_model.specs.Batch.{batch_of}
-use Rattle.bats_model.specs.Kept.{kept_of}
-use Rattle.bats_model.specs.Peeling.{is_in, with_symbols, set_of, Fixes, IsStep, IsStuckSet, AreHeld, held_count}
+use Rattle.bats_model.specs.Kept.{kept_of, AreHeld}
+use Rattle.bats_model.specs.Peeling.{is_in, with_symbols, set_of, Fixes, IsStep, IsStuckSet, held_count}
 use Rattle.bats_model.specs.declared.packet.Packet.{Packet}
 use Rattle.bats_batch.specs.Held.{HeldData, HeldBatch, HaveRisingNumbers, StandsFor, batch_at, kept_at, no_batch}
 use Rattle.bats_batch.proofs.HeldBatches.{kept_at-stands}

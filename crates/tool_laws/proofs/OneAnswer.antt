@@ -2,7 +2,7 @@
 use Rattle.std.proofs.Common.{ℕ, ◌≡◌, ◌⊎◌, ◌∙◌, inl, inr, sym, ap, refl, subst, Bool, List, length}
 use Rattle.std.specs.Prelude.{codes}
 use Rattle.bats_model.specs.Session.{SessionData}
-use Rattle.bats_model.specs.Kept.{kept_count}
+use Rattle.bats_model.specs.Kept.{kept_count, AreHeld}
 use Rattle.bats_model.specs.PacketFile.{packets_of}
 use Rattle.bats_model.specs.RightAnswer.{IsRightAnswer, AreAlike}
 use Rattle.bats_model.specs.declared.packet.Packet.{Packet}
@@ -13,7 +13,6 @@ use Rattle.bats_model.proofs.RightAnswers.{AreAlike-right}
 use Rattle.bats_format.proofs.PacketFiles.{same_file}
 use Rattle.tool_run.specs.declared.status.Status.TheVariants as statuses
 use Rattle.tool_run.specs.Ending.{Ending}
-use Rattle.tool_records.specs.Keeping.{AreHeld}
 use Rattle.tool_sink.specs.Answers.{answer_line, answer_status}
 use Rattle.tool_sink.specs.Sink.{SinkAnswers, IsSinkEnding, answer_ending}
 use Rattle.tool_sink.specs.Check.{CheckTells, IsCheckEnding, answer_text, check_ending}

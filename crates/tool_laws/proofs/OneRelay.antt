@@ -4,8 +4,8 @@ use Rattle.bats_model.specs.Session.{SessionData}
 use Rattle.bats_model.specs.PacketFile.{packets_of}
 use Rattle.bats_model.specs.declared.item.Item.{Item}
 use Rattle.bats_format.proofs.PacketFiles.{same_file}
+use Rattle.bats_model.specs.Kept.{AreHeld}
 use Rattle.tool_run.specs.Ending.{Ending}
-use Rattle.tool_records.specs.Keeping.{AreHeld}
 use Rattle.tool_stream.specs.Relay.{RelaySends, IsRelayEnding, output_count, relayed_ending}
 use Rattle.tool_records.proofs.KeptEndings.{no_stop, one_held, one_stop}
 

@@ -9,7 +9,7 @@ use Rattle.std.proofs.lemmas.List.FromFn.{length-map-range_with_len}
 use Rattle.std.proofs.lemmas.List.Kept.{AllPairs-from_increasing}
 use Rattle.bats_model.specs.Session.{SessionData}
 use Rattle.bats_model.specs.Agreement.{AgreesWithAll}
-use Rattle.bats_model.specs.Kept.{kept_of, kept_count, new_after, packets_in}
+use Rattle.bats_model.specs.Kept.{kept_of, kept_count, new_after, packets_in, AreHeld}
 use Rattle.bats_model.specs.PacketFile.{IsPacketFile, HasShape, AreItemsFrom, record_of, packets_of}
 use Rattle.bats_model.specs.Relay.{relay_output, IsOutputOf}
 use Rattle.bats_model.specs.declared.packet.Packet.{Packet}
@@ -21,7 +21,7 @@ use Rattle.bats_relay.proofs.OutputRows.{batch-output}
 use Rattle.bats_relay.proofs.RelayedPackets.{Agrees-outputs_of, HasShape-outputs_of}
 use Rattle.tool_run.specs.Ending.{Ending}
 use Rattle.tool_run.specs.declared.status.Status.TheVariants as statuses
-use Rattle.tool_records.specs.Keeping.{AreHeld, AreFew}
+use Rattle.tool_records.specs.Keeping.{AreFew}
 use Rattle.tool_stream.specs.Relay.{RelaySends, IsRelayEnding, most_outputs, output_count, batch_outputs, sent_packets, relayed_ending}
 use Rattle.tool_records.proofs.RefusedReadings.{IsRefused-reading}
 use Rattle.tool_laws.proofs.SentPackets.{IsFileOf, file_of}

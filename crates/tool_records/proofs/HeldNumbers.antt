@@ -7,9 +7,9 @@ use Rattle.std.proofs.lemmas.Bool.{cases_Bool, eqb-true}
 use Rattle.std.proofs.lemmas.List.{get_or-map, length-map}
 use Rattle.std.proofs.lemmas.List.Elements.{All-contains, Contains-get_or, Contains-append_right}
 use Rattle.bats_model.specs.declared.packet.Packet.{Packet}
+use Rattle.bats_model.specs.Kept.{AreHeld}
 use Rattle.bats_batch.specs.Held.{HeldData, HeldBatch, HaveRisingNumbers, StandsFor, batch_at, kept_at, no_batch}
 use Rattle.bats_batch.proofs.HeldBatches.{kept_at-stands}
-use Rattle.tool_records.specs.Keeping.{AreHeld}
 
 -- the numbers of held batches
 abbrev pub numbers_of : List HeldBatch → List ℕ

@@ -15,8 +15,9 @@ use Rattle.bats_model.specs.declared.item.Item.TheVariants as items
 use Rattle.bats_model.specs.declared.read_end.ReadEnd.{ReadEnd}
 use Rattle.bats_format.proofs.PacketFiles.{further_items}
 use Rattle.bats_format.proofs.Refusals.{refused_once, no_file_refused}
+use Rattle.bats_model.specs.Kept.{AreHeld}
 use Rattle.tool_run.specs.Ending.{Ending}
-use Rattle.tool_records.specs.Keeping.{AreFew, AreHeld, RefusesAfterFew, PassesLimit, StopsKeeping}
+use Rattle.tool_records.specs.Keeping.{AreFew, RefusesAfterFew, PassesLimit, StopsKeeping}
 use Rattle.tool_records.specs.Reading.{IsReading, refused_ending}
 use Rattle.tool_records.proofs.KeptItems.{AreFew-before}
 use Rattle.tool_records.proofs.RefusedReadings.{IsRefused-reading}

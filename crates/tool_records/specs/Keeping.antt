@@ -1,10 +1,8 @@
 -- How a command ends that keeps the new packets of a packet file, where it doesn't take the whole input: as long as no more
 -- are kept than may be it reads on.
-use Rattle.std.specs.Prelude.{ℕ, ◌≡◌, ◌≤◌, ◌<◌, ◌⊎◌, ◌↔◌, List, [], ◌∷◌, ◌++◌, length, codes, Option, Some, None}
-use Rattle.std.specs.List.{Contains}
-use Rattle.std.specs.List.Sorted.{IsStrictlyIncreasing}
+use Rattle.std.specs.Prelude.{ℕ, ◌≡◌, ◌≤◌, ◌⊎◌, List, [], ◌∷◌, ◌++◌, length, codes, Option, Some, None}
 use Rattle.bats_model.specs.Session.{SessionData}
-use Rattle.bats_model.specs.Kept.{kept_of, kept_count}
+use Rattle.bats_model.specs.Kept.{kept_count}
 use Rattle.bats_model.specs.PacketFile.{packets_of}
 use Rattle.bats_model.specs.Refusal.{HasFront}
 use Rattle.bats_model.specs.declared.packet.Packet.{Packet}
@@ -17,11 +15,6 @@ use Rattle.tool_run.specs.Ending.{Ending, refusal, in_part}
 use Rattle.tool_run.specs.Promise.{Promise, IsBegun}
 use Rattle.tool_records.specs.Reading.{IsReading, refused_ending}
 use Rattle.tool_records.specs.ReadsRecords.{ReadsRecords}
-
--- the numbers are those of the batches that have a kept packet, rising
-pub record AreHeld (packets : List Packet) (numbers : List ℕ) : Type 0 where
-  pub rising : IsStrictlyIncreasing numbers
-  pub held : (number : ℕ) → Contains numbers number ↔ 0 < length (kept_of number packets)
 
 -- no more of the packets among the items are kept than may be
 abbrev pub AreFew : Option SessionData → List Item → Type 0

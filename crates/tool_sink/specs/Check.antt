@@ -3,7 +3,7 @@ use Rattle.std.specs.Prelude.{ℕ, ◌≡◌, ◌⊎◌, List, ◌++◌, length,
 use Rattle.std.specs.Fmt.{decimal}
 use Rattle.bats_model.specs.Session.{SessionData}
 use Rattle.bats_model.specs.Batch.{batch_of, degree_of}
-use Rattle.bats_model.specs.Kept.{kept_of, kept_count}
+use Rattle.bats_model.specs.Kept.{kept_of, kept_count, AreHeld}
 use Rattle.bats_model.specs.PacketFile.{IsPacketFile, packets_of}
 use Rattle.bats_model.specs.RightAnswer.{IsRightAnswer}
 use Rattle.bats_model.specs.declared.packet.Packet.{Packet}
@@ -12,7 +12,7 @@ use Rattle.bats_model.specs.declared.answer.Answer.{Answer}
 use Rattle.bats_model.specs.declared.answer.Answer.TheVariants.{File, Inconsistent, NeedMore}
 use Rattle.tool_run.specs.Ending.{Ending, to_end}
 use Rattle.tool_run.specs.Promise.{Promise}
-use Rattle.tool_records.specs.Keeping.{AreFew, AreHeld, StopsKeeping, keeping_promise}
+use Rattle.tool_records.specs.Keeping.{AreFew, StopsKeeping, keeping_promise}
 use Rattle.tool_sink.specs.Answers.{answer_line, answer_status}
 
 -- the line of a held batch: its number, its degree, and how many of its packets are kept

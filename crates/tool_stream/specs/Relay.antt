@@ -2,7 +2,7 @@
 use Rattle.std.specs.Prelude.{ℕ, ◌≡◌, ◌⊎◌, Bool, List, ◌++◌, length, flat_map, codes, Some, if◌then◌else◌}
 use Rattle.std.specs.Fmt.{decimal}
 use Rattle.bats_model.specs.Session.{SessionData}
-use Rattle.bats_model.specs.Kept.{kept_of, kept_count}
+use Rattle.bats_model.specs.Kept.{kept_of, kept_count, AreHeld}
 use Rattle.bats_model.specs.PacketFile.{IsPacketFile, packets_of}
 use Rattle.bats_model.specs.Records.{header_record, packet_record}
 use Rattle.bats_model.specs.Relay.{relay_outputs}
@@ -12,7 +12,7 @@ use Rattle.bats_relay.specs.Rule.{fixed_count, extra_count}
 use Rattle.tool_run.specs.declared.status.Status.TheVariants as statuses
 use Rattle.tool_run.specs.Ending.{Ending, to_end}
 use Rattle.tool_run.specs.Promise.{Promise}
-use Rattle.tool_records.specs.Keeping.{AreFew, AreHeld, StopsKeeping, keeping_promise}
+use Rattle.tool_records.specs.Keeping.{AreFew, StopsKeeping, keeping_promise}
 
 -- outputs of a batch, at most: as many as its coefficients, 32 at most, and 64 more
 abbrev pub most_outputs : ℕ

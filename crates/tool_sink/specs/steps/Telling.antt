@@ -5,12 +5,12 @@ use Rattle.bats_model.specs.Session.{SessionData}
 use Rattle.bats_model.specs.RightAnswer.{IsRightAnswer}
 use Rattle.bats_model.specs.declared.packet.Packet.{Packet}
 use Rattle.bats_model.specs.declared.answer.Answer.{Answer}
+use Rattle.bats_model.specs.Kept.{AreHeld}
 use Rattle.tool_run.specs.declared.finish.Finish.{Finish}
 use Rattle.tool_run.specs.declared.stop.Stop.{Stop}
 use Rattle.tool_run.specs.declared.stop.Stop.TheVariants as stops
 use Rattle.tool_run.specs.Ending.{Ending}
 use Rattle.tool_run.specs.Writes.{Writes}
-use Rattle.tool_records.specs.Keeping.{AreHeld}
 use Rattle.tool_sink.specs.Sink.{answer_ending}
 use Rattle.tool_sink.specs.Check.{check_ending}
 

@@ -4,11 +4,11 @@ use Rattle.bats_io.specs.Streams.{OutputState}
 use Rattle.bats_model.specs.Session.{SessionData}
 use Rattle.bats_model.specs.PacketFile.{packets_of}
 use Rattle.bats_model.specs.declared.item.Item.{Item}
+use Rattle.bats_model.specs.Kept.{AreHeld}
 use Rattle.tool_run.specs.declared.finish.Finish.{Finish}
 use Rattle.tool_run.specs.declared.stop.Stop.{Stop}
 use Rattle.tool_run.specs.declared.status.Status.TheVariants as statuses
 use Rattle.tool_run.specs.Writes.{Writes}
-use Rattle.tool_records.specs.Keeping.{AreHeld}
 use Rattle.tool_stream.specs.Relay.{output_count, relayed_ending}
 
 -- what is sent of all items was written, and the finish is that of its ending

@@ -1,8 +1,7 @@
 use Rattle.std.proofs.Common.{◌∙◌, sym, ap}
 use Rattle.std.specs.List.{range_with_len}
 use Rattle.bats_model.specs.Session.{symbols_of}
-use Rattle.bats_batch.specs.Held.{row_count}
-use Rattle.bats_decode.specs.Decoder.{kept_packets}
+use Rattle.bats_batch.specs.Held.{row_count, kept_packets}
 use Rattle.bats_decode.proofs.EliminatedLemmas.{row_count-kept, AreTargets-all, steps-within, ArePlaces-read, IsEliminated-reduced}
 use Rattle.bats_decode.proofs.elimination.eliminate.Goals as goal
 

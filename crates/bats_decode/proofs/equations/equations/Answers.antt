@@ -7,8 +7,7 @@ use Rattle.bats_model.specs.Batch.{BatchData, batch_of}
 use Rattle.bats_model.specs.declared.packet.Packet.{Packet}
 use Rattle.bats_model.proofs.SystematicBatches.{columns-batch_of}
 use Rattle.bats_batch.specs.Basis.{BasisData}
-use Rattle.bats_batch.specs.Held.{HeldBatch, batch_at}
-use Rattle.bats_decode.specs.Decoder.{kept_packets}
+use Rattle.bats_batch.specs.Held.{HeldBatch, batch_at, kept_packets}
 use Rattle.bats_decode.specs.steps.Equations.{AreBegun}
 use Rattle.bats_decode.proofs.EquationLemmas.{AreBegun-none, AreEquations-all, kept_packets-more, kept_packets-room, length-kept_packets}
 use Rattle.bats_decode.proofs.equations.equations.Goals as goal

@@ -4,8 +4,8 @@ use Rattle.bats_model.specs.Session.{SessionData}
 use Rattle.bats_model.specs.PacketFile.{HasShape}
 use Rattle.bats_model.specs.RightAnswer.{IsRightAnswer}
 use Rattle.bats_model.specs.declared.packet.Packet.{Packet}
-use Rattle.bats_batch.specs.Held.{row_count}
-use Rattle.bats_decode.specs.Decoder.{DecoderData, StandsFor, kept_packets}
+use Rattle.bats_batch.specs.Held.{row_count, kept_packets}
+use Rattle.bats_decode.specs.Decoder.{DecoderData, StandsFor}
 use Rattle.bats_decode.specs.SolvingPlan.{PlanFollows}
 use Rattle.bats_decode.specs.declared.elimination.Place.{Place}
 use Rattle.bats_decode.specs.steps.Eliminated.{IsShaped}
