@@ -1,5 +1,5 @@
 -- The held batches, and which packets they stand for.
-use Rattle.std.specs.Prelude.{ℕ, ◌≡◌, ◌<◌, ◌==◌, if◌then◌else◌, List, [], ◌∷◌, All, length, slice_index_or, sum_by}
+use Rattle.std.specs.Prelude.{ℕ, ◌≡◌, ◌<◌, ◌==◌, if◌then◌else◌, List, [], ◌∷◌, All, length, flat_map, slice_index_or, sum_by}
 use Rattle.bats_model.specs.Session.{SessionData}
 use Rattle.bats_model.specs.PacketFile.{HasShape}
 use Rattle.bats_model.specs.Kept.{kept_of}
@@ -28,6 +28,10 @@ kept_at (batch ∷ batches) number = if batch.number == number then batch.kept e
 -- all kept packets are so many
 abbrev pub row_count : List HeldBatch → ℕ
 row_count batches = sum_by (λ batch. length batch.kept) batches
+
+-- all kept packets, in the order of the payload rows: by rising batch number and, within a batch, in the order kept
+unfoldable pub kept_packets : List HeldBatch → List Packet
+kept_packets batches = flat_map (λ batch. batch.kept) batches
 
 abbrev pub no_batch : HeldBatch
 no_batch = record { number = 0; kept = [] }
