@@ -96,7 +96,7 @@ finished p i before after statuses.ReadFault o f = absurd o
 finished p i before after statuses.WriteFault o f = absurd o
 finished p i before after statuses.Memory o f = absurd o
 
-finishes : (p : Promise) (i : List ℕ) (x y : Ends) (o n m : OutputState) (c d : Counters) (finish : Finish) → Completes p i x y finish → IsFlushed y.output o
+finishes : (p : Promise) (i : List ℕ) (x y : Ends) (o n m : OutputState) (c d : Counters) (finish : Finish) → Completes p i x y c d finish → IsFlushed y.output o
     → Reported n m (string_bytes finish.line) → Finishes p i (state x n c) (state_with y o m d) finish.status
 finishes p i x y o n m c d finish q f r = record {
   ending = q.ending;
@@ -104,22 +104,23 @@ finishes p i x y o n m c d finish q f r = record {
   status_is = q.status_is;
   no_fault = record { input = q.input_fault; output = f.faults ∙ q.output_fault; notes = r.faults };
   read = q.read;
+  worked = q.worked;
   output = f.written ∙ q.output;
   notes = r.written ∙ ap (appended n.written) q.line_is;
   flushed = record { output = f.flushed; notes = r.flushed };
 }
 
 -- the whole output of a right ending is a part, as the promise keeps
-whole : (p : Promise) → Keeps p → (i : List ℕ) (x y : Ends) (finish : Finish) → Completes p i x y finish → SoFar p i x y
-whole p keeps i x y finish q = record {
+whole : (p : Promise) → Keeps p → (i : List ℕ) (x y : Ends) (c d : Counters) (finish : Finish) → Completes p i x y c d finish → SoFar p i x y
+whole p keeps i x y c d finish q = record {
   faults = q.output_fault;
   cut = inl (q.input_fault, record { part = q.ending.output; is_part = keeps.whole i q.ending q.is_ending; written = q.output });
 }
 
 outcome : (p : Promise) → Keeps p → (i : List ℕ) (x y : Ends) (o n m : OutputState) (c d : Counters) (result : Result Finish Stop) (status : Status)
-    → AttemptsAs p i x y result → Concludes result y.output o n m status → IsOutcome p i (state x n c) (state_with y o m d) status
+    → AttemptsAs p i x y c d result → Concludes result y.output o n m status → IsOutcome p i (state x n c) (state_with y o m d) status
 outcome p keeps i x y o n m c d (Ok finish) status a r =
-    reported p i x y o n m c d (string_bytes finish.line) finish.status status (whole p keeps i x y finish a)
+    reported p i x y o n m c d (string_bytes finish.line) finish.status status (whole p keeps i x y c d finish a)
     (λ f. inl (record {
       ending = a.ending;
       is_ending = a.is_ending;
@@ -169,7 +170,7 @@ outcome p keeps i x y o n m c d (Err stops.WriteFault) status a r =
 
 -- a command that did what a promise asks, once concluded, is a run that keeps the promise
 pub RunsBy-concluded : (p : Promise) → Keeps p → (x y : Ends) (o n m : OutputState) (c d : Counters) (result : Result Finish Stop) (status : Status)
-    → Attempts p x y result → Concludes result y.output o n m status → RunsBy p (state x n c) (state_with y o m d) status
+    → Attempts p x y c d result → Concludes result y.output o n m status → RunsBy p (state x n c) (state_with y o m d) status
 RunsBy-concluded p keeps x y o n m c d result status a r = record {
   input = a.input;
   told = a.told;

@@ -8,8 +8,8 @@ use Rattle.tool_run.specs.declared.status.Status.{Status}
 use Rattle.tool_run.specs.declared.status.Status.TheVariants as statuses
 use Rattle.tool_run.specs.declared.stop.Stop.{Stop}
 use Rattle.tool_run.specs.declared.stop.Stop.TheVariants as stops
-use Rattle.tool_run.specs.Streams.{Ends}
-use Rattle.tool_run.specs.Ending.{Ending, HasRead}
+use Rattle.tool_run.specs.Streams.{Counters, Ends}
+use Rattle.tool_run.specs.Ending.{Ending, HasRead, HasWorked}
 use Rattle.tool_run.specs.Promise.{Promise}
 use Rattle.tool_run.specs.Run.{WritesPart, WritesPartRead}
 
@@ -21,13 +21,14 @@ IsOfEnding statuses.Memory = ⊥
 IsOfEnding _ = Unit {0}
 
 -- the whole output of a right ending was written
-pub record Completes (promise : Promise) (input : List ℕ) (before after : Ends) (finish : Finish) : Type 0 where
+pub record Completes (promise : Promise) (input : List ℕ) (before after : Ends) (given now : Counters) (finish : Finish) : Type 0 where
   pub ending : Ending
   pub is_ending : promise.ends input ending
   pub status_is : finish.status ≡ ending.status
   pub of_ending : IsOfEnding finish.status
   pub line_is : string_bytes finish.line ≡ ending.line
   pub read : HasRead ending.reach before.input.left after.input.left
+  pub worked : HasWorked ending.work given now
   pub input_fault : after.input.faults ≡ before.input.faults
   pub output : Appends before.output.written after.output.written ending.output
   pub output_fault : after.output.faults ≡ before.output.faults
@@ -50,15 +51,19 @@ pub record LacksMemory (promise : Promise) (input : List ℕ) (before after : En
   pub output : WritesPart promise input before.output after.output
   pub output_fault : after.output.faults ≡ before.output.faults
 
-abbrev pub AttemptsAs : Promise → List ℕ → Ends → Ends → Result Finish Stop → Type 0
-AttemptsAs promise input before after (Ok finish) = Completes promise input before after finish
-AttemptsAs promise input before after (Err stops.ReadFault) = CannotRead promise before after
-AttemptsAs promise input before after (Err stops.WriteFault) = CannotWrite promise input before after
-AttemptsAs promise input before after (Err stops.Memory) = LacksMemory promise input before after
+abbrev pub AttemptsAs : Promise → List ℕ → Ends → Ends → Counters → Counters → Result Finish Stop → Type 0
+AttemptsAs promise input before after given now (Ok finish) = Completes promise input before after given now finish
+AttemptsAs promise input before after given now (Err stops.ReadFault) = CannotRead promise before after
+AttemptsAs promise input before after given now (Err stops.WriteFault) = CannotWrite promise input before after
+AttemptsAs promise input before after given now (Err stops.Memory) = LacksMemory promise input before after
 
--- what a command does of its promise before its output is flushed
-pub record Attempts (promise : Promise) (before after : Ends) (result : Result Finish Stop) : Type 0 where
+-- what a command does of its promise before its output is flushed, with the counters before and after it
+pub record Attempts (promise : Promise) (before after : Ends) (given now : Counters) (result : Result Finish Stop) : Type 0 where
   pub input : List ℕ
   pub told : IsTold before.input.left input
   pub read : promise.reads before.input.left after.input.left
-  pub as_far : AttemptsAs promise input before after result
+  pub as_far : AttemptsAs promise input before after given now result
+
+-- the same, whatever the counters are: of a command that promises nothing of them
+abbrev pub AttemptsUncounted : Promise → Ends → Ends → Result Finish Stop → Type 0
+AttemptsUncounted promise before after result = (given now : Counters) → Attempts promise before after given now result

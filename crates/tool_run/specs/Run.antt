@@ -7,7 +7,7 @@ use Rattle.tool_run.specs.declared.status.Status.{Status}
 use Rattle.tool_run.specs.declared.status.Status.TheVariants as statuses
 use Rattle.tool_run.specs.declared.stop.Stop.TheVariants as stops
 use Rattle.tool_run.specs.Streams.{RunState}
-use Rattle.tool_run.specs.Ending.{Ending, HasRead, line_of}
+use Rattle.tool_run.specs.Ending.{Ending, HasRead, HasWorked, line_of}
 use Rattle.tool_run.specs.Promise.{Promise}
 
 -- the counts of faults are what they were
@@ -49,13 +49,15 @@ pub record WritesPartRead (promise : Promise) (a b : InputState) (before after :
   pub is_part : promise.partly_read a.left b.left part
   pub written : Appends before.written after.written part
 
--- the run wrote the output and the notes line of a right ending, flushed them, and answers its status
+-- the run wrote the output and the notes line of a right ending, flushed them, and answers its status; it did no more
+-- operations than the ending promises
 pub record Finishes (promise : Promise) (input : List ℕ) (before after : RunState) (status : Status) : Type 0 where
   pub ending : Ending
   pub is_ending : promise.ends input ending
   pub status_is : status ≡ ending.status
   pub no_fault : NoFault before after
   pub read : HasRead ending.reach before.input.left after.input.left
+  pub worked : HasWorked ending.work before.counters after.counters
   pub output : Appends before.output.written after.output.written ending.output
   pub notes : Appends before.notes.written after.notes.written ending.line
   pub flushed : AllFlushed after
@@ -132,7 +134,7 @@ IsOutcome promise input before after statuses.WriteFault =
 IsOutcome promise input before after statuses.Memory = RunsOutOfMemory promise input before after
 IsOutcome promise input before after status = Finishes promise input before after status
 
--- what a run of a command promises (nothing is said of its counters yet): of the bytes that the input tells, or of some bytes where it tells nothing, the run
+-- what a run of a command promises: of the bytes that the input tells, or of some bytes where it tells nothing, the run
 -- reads no more than it has to, and ends as the command's promise says
 pub record RunsBy (promise : Promise) (before after : RunState) (status : Status) : Type 0 where
   pub input : List ℕ
