@@ -16,10 +16,10 @@ use Rattle.bats_batch.specs.Held.{max_kept}
 use Rattle.tool_run.specs.declared.finish.Finish.{Finish}
 use Rattle.tool_run.specs.declared.stop.Stop.{Stop}
 use Rattle.tool_run.specs.declared.stop.Stop.TheVariants as stops
-use Rattle.tool_run.specs.Attempt.{Attempts, AttemptsAs, IsOfEnding}
-use Rattle.tool_run.specs.Ending.{Ending, HasRead}
+use Rattle.tool_run.specs.Attempt.{Attempts, AttemptsAs, AttemptsUncounted, IsOfEnding}
+use Rattle.tool_run.specs.Ending.{Ending, HasRead, HasWorked}
 use Rattle.tool_run.specs.Promise.{Promise, IsBegun, Keeps}
-use Rattle.tool_run.specs.Streams.{Ends}
+use Rattle.tool_run.specs.Streams.{Counters, Ends}
 use Rattle.tool_run.specs.Writes.{Writes, AppendsAsFar}
 use Rattle.tool_run.proofs.Begun.{IsBegun-whole, IsBegun-front}
 use Rattle.tool_records.specs.declared.walking.Taken.{Taken}
@@ -89,6 +89,7 @@ record HasEnding (ends : List ℕ → Ending → Type 0) (start now : Ends) (end
   is_ending : ends input ending
   of_ending : IsOfEnding ending.status
   no_output : ending.output ≡ []
+  no_work : ending.work ≡ None
   reach : HasRead ending.reach start.input.left now.input.left
   reads : ReadsRecords takes_few start.input.left now.input.left
   no_fault : now.input.faults ≡ start.input.faults
@@ -132,8 +133,8 @@ PassesLimit-walked start now w rest =
 module _ (ends : List ℕ → Ending → Type 0) (start now : Ends) where
   -- memory ran out before anything was written
   lacks_memory : (input : List ℕ) → IsTold start.input.left input → ReadsRecords takes_few start.input.left now.input.left
-      → now.input.faults ≡ start.input.faults → now.output ≡ start.output → Attempts (keeping_promise ends) start now (Err stops.Memory)
-  lacks_memory input told reads no_fault nothing = record {
+      → now.input.faults ≡ start.input.faults → now.output ≡ start.output → AttemptsUncounted (keeping_promise ends) start now (Err stops.Memory)
+  lacks_memory input told reads no_fault nothing = λ c d. record {
     input = input;
     told = told;
     read = reads;
@@ -145,8 +146,8 @@ module _ (ends : List ℕ → Ending → Type 0) (start now : Ends) where
   }
 
   ends_by : (ending : Ending) (result : Result Finish Stop) → HasEnding ends start now ending → FinishesBy ending result
-      → Attempts (keeping_promise ends) start now result
-  ends_by ending (Ok finish) q e = record {
+      → AttemptsUncounted (keeping_promise ends) start now result
+  ends_by ending (Ok finish) q e = λ c d. record {
     input = q.input;
     told = q.told;
     read = q.reads;
@@ -157,6 +158,7 @@ module _ (ends : List ℕ → Ending → Type 0) (start now : Ends) where
       of_ending = subst IsOfEnding (sym e.0) q.of_ending;
       line_is = e.1;
       read = q.reach;
+      worked = subst (λ (most : Option ℕ). HasWorked most c d) (sym q.no_work) tt;
       input_fault = q.no_fault;
       output = subst (λ (bytes : List ℕ). Appends start.output.written now.output.written bytes) (sym q.no_output)
           (unwritten start.output now.output q.nothing);
@@ -164,7 +166,7 @@ module _ (ends : List ℕ → Ending → Type 0) (start now : Ends) where
     };
   }
   ends_by ending (Err stop) q e =
-      subst (λ (x : Stop). Attempts (keeping_promise ends) start now (Err x)) (sym e)
+      subst (λ (x : Stop). AttemptsUncounted (keeping_promise ends) start now (Err x)) (sym e)
       (lacks_memory q.input q.told q.reads q.no_fault q.nothing)
 
   -- ---- the input isn't taken whole
@@ -172,7 +174,7 @@ module _ (ends : List ℕ → Ending → Type 0) (start now : Ends) where
   -- it is refused
   pub Attempts-refused : ((input : List ℕ) (ending : Ending) → StopsKeeping input ending → ends input ending) → (end : ReadEnd)
       (result : Result Finish Stop) → Walks KeepsFew start now (Ok (walks.Refused end)) → FinishesBy (refused_ending [] end) result
-      → Attempts (keeping_promise ends) start now result
+      → AttemptsUncounted (keeping_promise ends) start now result
   Attempts-refused stopping end result walked finishes =
       let w : WalksToRefusal KeepsFew start now end = walked.as_far in
       ends_by (refused_ending [] end) result (record {
@@ -181,6 +183,7 @@ module _ (ends : List ℕ → Ending → Type 0) (start now : Ends) where
         is_ending = stopping w.input (refused_ending [] end) (inl (RefusesAfterFew-walked start now end w));
         of_ending = w.of_input;
         no_output = refl;
+        no_work = refl;
         reach = tt;
         reads = ReadsRecords-items takes_few w.session w.list start.input.left now.input.left
             (ReadsOn-few w.session w.list (few_so_far w.session w.list start.output now.output w.given)) w.reads;
@@ -191,7 +194,7 @@ module _ (ends : List ℕ → Ending → Type 0) (start now : Ends) where
   -- a packet too many came
   pub Attempts-full : ((input : List ℕ) (ending : Ending) → StopsKeeping input ending → ends input ending)
       → (result : Result Finish Stop) → Walks KeepsFew start now (Ok walks.Halted) → FinishesBy kept_limit_ending result
-      → Attempts (keeping_promise ends) start now result
+      → AttemptsUncounted (keeping_promise ends) start now result
   Attempts-full stopping result walked finishes =
       let w : WalksToItem KeepsFew start now (Ok takes.Halts) = walked.as_far in
       let meets = MeetsFull-ends w.session w.list w.item w.given.as_far in
@@ -203,6 +206,7 @@ module _ (ends : List ℕ → Ending → Type 0) (start now : Ends) where
         is_ending = stopping input kept_limit_ending (inr (PassesLimit-walked start now w told.0));
         of_ending = tt;
         no_output = refl;
+        no_work = refl;
         reach = tt;
         reads = ReadsRecords-last takes_few w.session w.list w.item start.input.left now.input.left meets.few meets.full w.reads;
         no_fault = w.no_fault;
@@ -212,20 +216,20 @@ module _ (ends : List ℕ → Ending → Type 0) (start now : Ends) where
   -- ---- the walk stopped
 
   -- memory ran out for an item
-  stopped_at_item : (stop : Stop) → WalksToItem KeepsFew start now (Err stop) → Attempts (keeping_promise ends) start now (Err stop)
+  stopped_at_item : (stop : Stop) → WalksToItem KeepsFew start now (Err stop) → AttemptsUncounted (keeping_promise ends) start now (Err stop)
   stopped_at_item stop w =
       let told = told_last w.reads in
-      subst (λ (x : Stop). Attempts (keeping_promise ends) start now (Err x)) (sym w.given.as_far.0)
+      subst (λ (x : Stop). AttemptsUncounted (keeping_promise ends) start now (Err x)) (sym w.given.as_far.0)
       (lacks_memory ((w.reads.front ++ record_of w.session w.item) ++ told.0) told.1
       (reads_one_more w.session w.list w.item start.input.left now.input.left (few_before_last w.session w.list w.item w.given.as_far.1) w.reads)
       w.no_fault w.given.nothing_written)
 
   -- no further record could be read
-  stopped_reading : (stop : Stop) → WalksToStop KeepsFew start now stop → Attempts (keeping_promise ends) start now (Err stop)
+  stopped_reading : (stop : Stop) → WalksToStop KeepsFew start now stop → AttemptsUncounted (keeping_promise ends) start now (Err stop)
   stopped_reading stops.ReadFault w =
       let told = told_items w.reads in
       let nothing = nothing_so_far w.session w.list start.output now.output w.given in
-      record {
+      λ c d. record {
         input = w.reads.front ++ told.0;
         told = told.1;
         read = ReadsRecords-items takes_few w.session w.list start.input.left now.input.left
@@ -244,7 +248,7 @@ module _ (ends : List ℕ → Ending → Type 0) (start now : Ends) where
       w.faults (nothing_so_far w.session w.list start.output now.output w.given)
   stopped_reading stops.WriteFault w = absurd w.faults
 
-  pub Attempts-stopped : (stop : Stop) → Walks KeepsFew start now (Err stop) → Attempts (keeping_promise ends) start now (Err stop)
+  pub Attempts-stopped : (stop : Stop) → Walks KeepsFew start now (Err stop) → AttemptsUncounted (keeping_promise ends) start now (Err stop)
   Attempts-stopped stop w =
       elim w.as_far [
         | inl item ↦ stopped_at_item stop item
@@ -255,7 +259,7 @@ module _ (ends : List ℕ → Ending → Type 0) (start now : Ends) where
 
 -- and memory ran out before anything was written
 pub Attempts-unwritten : (ends : List ℕ → Ending → Type 0) (start now : Ends) → Walks KeepsFew start now (Ok walks.Whole)
-    → Attempts (keeping_promise ends) start now (Err stops.Memory)
+    → AttemptsUncounted (keeping_promise ends) start now (Err stops.Memory)
 Attempts-unwritten ends start now walked =
     let w : WalksToEnd KeepsFew start now = walked.as_far in
     lacks_memory ends start now w.input w.told
@@ -263,10 +267,10 @@ Attempts-unwritten ends start now walked =
     w.no_fault w.given.nothing_written
 
 -- the output of a right ending was begun
-begun_as : (ends : List ℕ → Ending → Type 0) (input : List ℕ) (start now : Ends) (ending : Ending) (stop : Stop) → ends input ending
+begun_as : (ends : List ℕ → Ending → Type 0) (input : List ℕ) (start now : Ends) (c d : Counters) (ending : Ending) (stop : Stop) → ends input ending
     → now.input.faults ≡ start.input.faults → Writes start.output now.output ending.output (Some stop)
-    → AttemptsAs (keeping_promise ends) input start now (Err stop)
-begun_as ends input start now ending stops.WriteFault is no_fault writes =
+    → AttemptsAs (keeping_promise ends) input start now c d (Err stop)
+begun_as ends input start now c d ending stops.WriteFault is no_fault writes =
     let w : AppendsAsFar start.output now.output ending.output (Some stops.WriteFault) = writes.as_far in
     record {
       input_fault = no_fault;
@@ -277,7 +281,7 @@ begun_as ends input start now ending stops.WriteFault is no_fault writes =
       };
       output_fault = w.1;
     }
-begun_as ends input start now ending stops.Memory is no_fault writes =
+begun_as ends input start now c d ending stops.Memory is no_fault writes =
     let w : AppendsAsFar start.output now.output ending.output (Some stops.Memory) = writes.as_far in
     record {
       input_fault = no_fault;
@@ -288,7 +292,7 @@ begun_as ends input start now ending stops.Memory is no_fault writes =
       };
       output_fault = w.1;
     }
-begun_as ends input start now ending stops.ReadFault is no_fault writes = absurd writes.as_far
+begun_as ends input start now c d ending stops.ReadFault is no_fault writes = absurd writes.as_far
 
 -- the output of a right ending was written after the walk, or begun
 abbrev pub EndsAs : Ending → OutputState → OutputState → Result Finish Stop → Type 0
@@ -296,33 +300,34 @@ EndsAs ending before after (Ok finish) =
     (finish.status ≡ ending.status) × (string_bytes finish.line ≡ ending.line) × Writes before after ending.output None
 EndsAs ending before after (Err stop) = Writes before after ending.output (Some stop)
 
-ended_as : (ends : List ℕ → Ending → Type 0) (input : List ℕ) (start now : Ends) (ending : Ending) (result : Result Finish Stop)
-    → ends input ending → IsOfEnding ending.status → HasRead ending.reach start.input.left now.input.left
+ended_as : (ends : List ℕ → Ending → Type 0) (input : List ℕ) (start now : Ends) (c d : Counters) (ending : Ending) (result : Result Finish Stop)
+    → ends input ending → IsOfEnding ending.status → HasRead ending.reach start.input.left now.input.left → HasWorked ending.work c d
     → now.input.faults ≡ start.input.faults → EndsAs ending start.output now.output result
-    → AttemptsAs (keeping_promise ends) input start now result
-ended_as ends input start now ending (Ok finish) is of_ending reach no_fault done = record {
+    → AttemptsAs (keeping_promise ends) input start now c d result
+ended_as ends input start now c d ending (Ok finish) is of_ending reach worked no_fault done = record {
   ending = ending;
   is_ending = is;
   status_is = done.0;
   of_ending = subst IsOfEnding (sym done.0) of_ending;
   line_is = done.1;
   read = reach;
+  worked = worked;
   input_fault = no_fault;
   output = done.2.as_far.0;
   output_fault = done.2.as_far.1;
 }
-ended_as ends input start now ending (Err stop) is of_ending reach no_fault cut = begun_as ends input start now ending stop is no_fault cut
+ended_as ends input start now c d ending (Err stop) is of_ending reach worked no_fault cut = begun_as ends input start now c d ending stop is no_fault cut
 
 -- after the walk of any taker that has kept few of the items' packets and has written nothing
-pub Attempts-ended : (ends : List ℕ → Ending → Type 0) (gives : Gives) (start now : Ends) (after : OutputState) (ending : Ending)
+pub Attempts-ended : (ends : List ℕ → Ending → Type 0) (gives : Gives) (start now : Ends) (c d : Counters) (after : OutputState) (ending : Ending)
     (result : Result Finish Stop) → (w : WalksToEnd gives start now) → AreFew (Some w.session) w.list → now.output ≡ start.output
-    → ends w.input ending → IsOfEnding ending.status → HasRead ending.reach start.input.left now.input.left
-    → EndsAs ending now.output after result → Attempts (keeping_promise ends) start (record { input = now.input; output = after }) result
-Attempts-ended ends gives start now after ending result w few nothing is of_ending reach done =
+    → ends w.input ending → IsOfEnding ending.status → HasRead ending.reach start.input.left now.input.left → HasWorked ending.work c d
+    → EndsAs ending now.output after result → Attempts (keeping_promise ends) start (record { input = now.input; output = after }) c d result
+Attempts-ended ends gives start now c d after ending result w few nothing is of_ending reach worked done =
     let written : EndsAs ending start.output after result = subst (λ (o : OutputState). EndsAs ending o after result) nothing done in
     record {
       input = w.input;
       told = w.told;
       read = ReadsRecords-items takes_few (Some w.session) w.list start.input.left now.input.left few w.reads;
-      as_far = ended_as ends w.input start (record { input = now.input; output = after }) ending result is of_ending reach w.no_fault written;
+      as_far = ended_as ends w.input start (record { input = now.input; output = after }) c d ending result is of_ending reach worked w.no_fault written;
     }

@@ -1,6 +1,6 @@
 -- How a command ends that keeps the new packets of a packet file, where it doesn't take the whole input: as long as no more
 -- are kept than may be it reads on.
-use Rattle.std.specs.Prelude.{ℕ, ◌≡◌, ◌≤◌, ◌⊎◌, List, [], ◌∷◌, ◌++◌, length, codes, Option, Some, None}
+use Rattle.std.specs.Prelude.{ℕ, ◌≡◌, ◌≤◌, ◌⊎◌, List, [], ◌∷◌, ◌++◌, codes, Option, Some, None}
 use Rattle.bats_model.specs.Session.{SessionData}
 use Rattle.bats_model.specs.Kept.{kept_count}
 use Rattle.bats_model.specs.PacketFile.{packets_of}

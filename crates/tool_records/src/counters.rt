@@ -4,9 +4,9 @@ use std::sync::ledger::Ledger;
 
 /// The two counters of a run.
 #[derive(Drop)]
-pub struct Counters<'a, C: Ledger, L: Ledger> {
+pub struct Counters<C: Ledger, L: Ledger> {
     /// The steps of operations on coefficients.
-    pub coef_steps: &'a mut Steps<C>,
+    pub coef_steps: Steps<C>,
     /// The steps of operations on whole payloads.
-    pub steps: &'a mut Steps<L>,
+    pub steps: Steps<L>,
 }
