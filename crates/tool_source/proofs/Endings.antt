@@ -1,5 +1,5 @@
 -- How `source` ends, and that its promise can be kept.
-use Rattle.std.proofs.Common.{ℕ, ◌≡◌, ◌<◌, ◌≤◌, cond, List, length, ltb, arith, rules}
+use Rattle.std.proofs.Common.{ℕ, ◌≡◌, ◌<◌, ◌≤◌, cond, List, length, ltb, None, arith, rules}
 use Rattle.std.proofs.lemmas.Bool.Decides.{nat_tests}
 use Rattle.bats_model.specs.Session.{symbols_of}
 use Rattle.bats_words.specs.declared.source_options.SourceOptions.{SourceOptions}
@@ -17,6 +17,7 @@ done_ending o file = record {
   output = source_output (session_for o (length file)) file o.first o.batches;
   line = source_line (session_for o (length file)) o.batches;
   reach = to_end;
+  work = None;
 }
 
 too_long : (k : ℕ) (x y : Ending) → 4096 < k → cond (ltb 4096 k) x y ≡ x

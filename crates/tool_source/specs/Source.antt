@@ -1,5 +1,5 @@
 -- What `source` writes, and what it promises.
-use Rattle.std.specs.Prelude.{ℕ, ◌*◌, ◌+◌, nat_lt, if◌then◌else◌, List, ◌++◌, length, codes, flat_map}
+use Rattle.std.specs.Prelude.{ℕ, ◌*◌, ◌+◌, nat_lt, if◌then◌else◌, List, ◌++◌, length, codes, flat_map, None}
 use Rattle.std.specs.List.{range_with_len}
 use Rattle.std.specs.Fmt.{decimal}
 use Rattle.bats_model.specs.Session.{SessionData, symbols_of, max_symbols}
@@ -58,6 +58,7 @@ source_ending options file =
       output = source_output session file options.first options.batches;
       line = source_line session options.batches;
       reach = to_end;
+      work = None;
     }
 
 -- what `source` promises: it reads a file, only as far as shows that it is too long, and writes its batches

@@ -6,7 +6,7 @@ ghost use Rattle.tool_source.specs.Source.{coded_record, batch_records, packet_r
 ghost use Rattle.bats_words.specs.Options.{HasRanges};
 ghost use Rattle.tool_source.specs.FileSession.{session_for};
 ghost use Rattle.tool_run.specs.Writes.{Writes};
-ghost use Rattle.tool_run.specs.Attempt.{Attempts};
+ghost use Rattle.tool_run.specs.Attempt.{AttemptsUncounted};
 ghost use Rattle.tool_run.specs.Reads.{ReadsUpTo};
 ghost use Rattle.bats_words.specs.declared.source_options.SourceOptions.{SourceOptions};
 ghost use Rattle.tool_source.specs.steps.Ready.{IsReady};
@@ -167,7 +167,7 @@ fn send<O: Sink>(
     requires ranges { HasRanges options.now }
     requires length { length file.items ≡ session.file_length }
     ensures { (before after : InputState) → IsReady options.now before after session file.items
-        → Attempts (source_promise options.now)
+        → AttemptsUncounted (source_promise options.now)
         (record { input = before; output = O.state output.old })
         (record { input = after; output = O.state output.new })
         result }
@@ -197,7 +197,7 @@ fn too_long(alloc: Global) -> Result<Finish, Stop>
     ensures { (options : SourceOptions) (before after : InputState) (output : OutputState) (file : List ℕ)
         → HasRanges options → ReadsUpTo before after (max_symbols * options.t) file
         → max_symbols < symbols_of (session_for options (length file))
-        → Attempts (source_promise options)
+        → AttemptsUncounted (source_promise options)
         (record { input = before; output = output })
         (record { input = after; output = output })
         result }
@@ -213,7 +213,7 @@ pub fn source<S: Source, O: Sink>(
     output: &mut O,
 ) -> Result<Finish, Stop>
     requires { HasRanges options.now }
-    ensures { Attempts (source_promise options.now)
+    ensures { AttemptsUncounted (source_promise options.now)
         (record { input = S.state input.old; output = O.state output.old })
         (record { input = S.state input.new; output = O.state output.new })
         result }

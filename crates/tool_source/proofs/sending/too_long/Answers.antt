@@ -1,13 +1,13 @@
 use Rattle.std.proofs.Common.{arith}
 use Rattle.tool_run.specs.declared.stop.Stop.TheVariants as stops
-use Rattle.tool_run.proofs.Attempts.{Attempts-exit}
+use Rattle.tool_run.proofs.Attempts.{AttemptsUncounted-exit}
 use Rattle.tool_source.specs.Source.{source_promise}
 use Rattle.tool_source.proofs.Sourcing.{Attempts-no_line, Attempts-too_long}
 use Rattle.tool_source.proofs.sending.too_long.Goals as goal
 
 pub returns-in_err-refuse : goal.returns-in_err-refuse
 returns-in_err-refuse c = λ options before after output file ranges read long.
-    Attempts-exit (source_promise options) _ _ stops.Memory _ c.from_residual.ensures.1
+    AttemptsUncounted-exit (source_promise options) _ _ stops.Memory _ c.from_residual.ensures.1
     (Attempts-no_line options before after output file read)
 
 pub returns : goal.returns
