@@ -15,7 +15,7 @@ use Rattle.tool_run.specs.declared.finish.Finish.{Finish}
 use Rattle.tool_run.specs.declared.status.Status.TheVariants as statuses
 use Rattle.tool_run.specs.declared.stop.Stop.{Stop}
 use Rattle.tool_run.specs.declared.stop.Stop.TheVariants as stops
-use Rattle.tool_run.specs.Attempt.{Attempts}
+use Rattle.tool_run.specs.Attempt.{AttemptsUncounted}
 use Rattle.tool_run.specs.Ending.{Ending}
 use Rattle.tool_run.specs.Promise.{Keeps}
 use Rattle.tool_run.specs.Streams.{Ends}
@@ -160,23 +160,23 @@ pub Attempts-sent : (seed seed' : List ℕ) (extra : Bool) (count : ℕ) (intake
     → Walks (HasKept seed seed' (Some intake)) start now (Ok walks.Whole)
     → ((session : SessionData) (list : List Item) → StandsForItems seed (Some intake) session list
     → SendsAs seed extra count session list now.output after result)
-    → Attempts (relay_promise seed extra count) start (record { input = now.input; output = after }) result
+    → AttemptsUncounted (relay_promise seed extra count) start (record { input = now.input; output = after }) result
 Attempts-sent seed seed' extra count intake start now after (Ok finish) walked sends =
     let q : WalksToEnd (HasKept seed seed' (Some intake)) start now = walked.as_far in
     let s : SendsRight seed extra count q.session q.list now.output after finish = sends q.session q.list q.given.as_far in
     let few : AreFew (Some q.session) q.list = few_of seed (Some intake) q.session q.list q.given.as_far in
-    Attempts-ended (IsRelayEnding seed extra count) (HasKept seed seed' (Some intake)) start now after
+    λ c d. Attempts-ended (IsRelayEnding seed extra count) (HasKept seed seed' (Some intake)) start now c d after
     (relayed_ending q.session seed (output_count q.session extra count) (packets_of q.list) s.numbers) (Ok finish) q few q.given.nothing_written
     (inl (record { session = q.session; list = q.list; file = q.file; few = few; numbers = s.numbers; held = s.held; ending_is = refl }))
-    tt q.end (s.status, s.line, s.written)
+    tt q.end tt (s.status, s.line, s.written)
 Attempts-sent seed seed' extra count intake start now after (Err stop) walked sends =
     let q : WalksToEnd (HasKept seed seed' (Some intake)) start now = walked.as_far in
     let s : CannotSend seed extra count q.session q.list now.output after stop = sends q.session q.list q.given.as_far in
     let few : AreFew (Some q.session) q.list = few_of seed (Some intake) q.session q.list q.given.as_far in
-    Attempts-ended (IsRelayEnding seed extra count) (HasKept seed seed' (Some intake)) start now after
+    λ c d. Attempts-ended (IsRelayEnding seed extra count) (HasKept seed seed' (Some intake)) start now c d after
     (relayed_ending q.session seed (output_count q.session extra count) (packets_of q.list) s.numbers) (Err stop) q few q.given.nothing_written
     (inl (record { session = q.session; list = q.list; file = q.file; few = few; numbers = s.numbers; held = s.held; ending_is = refl }))
-    tt q.end s.written
+    tt q.end tt s.written
 
 -- the intake stands for all items
 pub has_stood : (seed seed' : List ℕ) (intake : Intake) (start now : Ends) → Walks (HasKept seed seed' (Some intake)) start now (Ok walks.Whole)
@@ -187,6 +187,6 @@ has_stood seed seed' intake start now walked =
 
 -- by the seed that a keeper was given
 pub Attempts-seed : (seed seed' : List ℕ) (extra : Bool) (count : ℕ) (start now : Ends) (result : Result Finish Stop) → seed' ≡ seed
-    → Attempts (relay_promise seed' extra count) start now result → Attempts (relay_promise seed extra count) start now result
+    → AttemptsUncounted (relay_promise seed' extra count) start now result → AttemptsUncounted (relay_promise seed extra count) start now result
 Attempts-seed seed seed' extra count start now result e a =
-    subst (λ (s : List ℕ). Attempts (relay_promise s extra count) start now result) e a
+    subst (λ (s : List ℕ). AttemptsUncounted (relay_promise s extra count) start now result) e a

@@ -13,9 +13,9 @@ use Rattle.tool_run.specs.declared.finish.Finish.{Finish}
 use Rattle.tool_run.specs.declared.status.Status.TheVariants as statuses
 use Rattle.tool_run.specs.declared.stop.Stop.{Stop}
 use Rattle.tool_run.specs.declared.stop.Stop.TheVariants as stops
-use Rattle.tool_run.specs.Attempt.{Attempts, AttemptsAs, IsOfEnding}
+use Rattle.tool_run.specs.Attempt.{AttemptsAs, AttemptsUncounted, IsOfEnding}
 use Rattle.tool_run.specs.Run.{WritesPart}
-use Rattle.tool_run.specs.Streams.{Ends}
+use Rattle.tool_run.specs.Streams.{Counters, Ends}
 use Rattle.tool_run.specs.Writes.{Writes, AppendsAsFar}
 use Rattle.tool_run.proofs.Writing.{Writes-after, Writes-same, Writes-nothing}
 use Rattle.tool_records.specs.declared.walking.Taken.{Taken}
@@ -76,8 +76,8 @@ so_far h p (Some session) list front start now records given = given.as_far.writ
 -- memory ran out after whole lines
 memory : (start now : Ends) (input lines : List ℕ) → IsTold start.input.left input → ReadsRecords takes_all start.input.left now.input.left
     → now.input.faults ≡ start.input.faults → AreLinesBegun input lines → Writes start.output now.output lines None
-    → Attempts show_promise start now (Err stops.Memory)
-memory start now input lines told reads no_fault begun w = record {
+    → AttemptsUncounted show_promise start now (Err stops.Memory)
+memory start now input lines told reads no_fault begun w = λ c d. record {
   input = input;
   told = told;
   read = reads;
@@ -100,34 +100,34 @@ part_of h p start now stop w rest prefix =
       written = prefix.front;
     }
 
-cut_as : (h p : ℕ) (start now : Ends) (stop : Stop) (w : WalksToItem (HasShown h p) start now (Err stop)) (rest : List ℕ)
+cut_as : (h p : ℕ) (start now : Ends) (c d : Counters) (stop : Stop) (w : WalksToItem (HasShown h p) start now (Err stop)) (rest : List ℕ)
     → AppendsAsFar start.output now.output (item_lines w.session (w.list ++ w.item ∷ [])) (Some stop)
-    → AttemptsAs show_promise ((w.reads.front ++ record_of w.session w.item) ++ rest) start now (Err stop)
-cut_as h p start now stops.WriteFault w rest a =
+    → AttemptsAs show_promise ((w.reads.front ++ record_of w.session w.item) ++ rest) start now c d (Err stop)
+cut_as h p start now c d stops.WriteFault w rest a =
     record { input_fault = w.no_fault; output = part_of h p start now stops.WriteFault w rest a.0; output_fault = a.1 }
-cut_as h p start now stops.Memory w rest a =
+cut_as h p start now c d stops.Memory w rest a =
     record { input_fault = w.no_fault; output = part_of h p start now stops.Memory w rest a.0; output_fault = a.1 }
-cut_as h p start now stops.ReadFault w rest a = absurd a
+cut_as h p start now c d stops.ReadFault w rest a = absurd a
 
 -- the last line was cut short
-cut : (h p : ℕ) (start now : Ends) (stop : Stop) → WalksToItem (HasShown h p) start now (Err stop) → Attempts show_promise start now (Err stop)
+cut : (h p : ℕ) (start now : Ends) (stop : Stop) → WalksToItem (HasShown h p) start now (Err stop) → AttemptsUncounted show_promise start now (Err stop)
 cut h p start now stop w =
     let told = told_last w.reads in
-    record {
+    λ c d. record {
       input = (w.reads.front ++ record_of w.session w.item) ++ told.0;
       told = told.1;
       read = ReadsRecords-item takes_all w.session w.list w.item start.input.left now.input.left tt w.reads;
-      as_far = cut_as h p start now stop w told.0 w.given.as_far.as_far;
+      as_far = cut_as h p start now c d stop w told.0 w.given.as_far.as_far;
     }
 
 -- no further record could be read
-not_read : (h p : ℕ) (start now : Ends) (stop : Stop) → WalksToStop (HasShown h p) start now stop → Attempts show_promise start now (Err stop)
+not_read : (h p : ℕ) (start now : Ends) (stop : Stop) → WalksToStop (HasShown h p) start now stop → AttemptsUncounted show_promise start now (Err stop)
 unfolding ReadsRecords-items
 not_read h p start now stops.ReadFault w =
     let told = told_items w.reads in
     let reads = ReadsRecords-items takes_all w.session w.list start.input.left now.input.left (all_taken w.session w.list) w.reads in
     let lines = so_far h p w.session w.list w.reads.front start.output now.output w.reads.records w.given in
-    record {
+    λ c d. record {
       input = w.reads.front ++ told.0;
       told = told.1;
       read = reads;
@@ -149,7 +149,7 @@ not_read h p start now stops.Memory w =
     (so_far h p w.session w.list w.reads.front start.output now.output w.reads.records w.given)
 not_read h p start now stops.WriteFault w = absurd w.faults
 
-pub Attempts-stopped : (h p : ℕ) (start now : Ends) (stop : Stop) → Walks (HasShown h p) start now (Err stop) → Attempts show_promise start now (Err stop)
+pub Attempts-stopped : (h p : ℕ) (start now : Ends) (stop : Stop) → Walks (HasShown h p) start now (Err stop) → AttemptsUncounted show_promise start now (Err stop)
 Attempts-stopped h p start now stop w =
     elim w.as_far [
       | inl item ↦ cut h p start now stop item
@@ -159,7 +159,7 @@ Attempts-stopped h p start now stop w =
 -- ---- the walk ends
 
 -- memory ran out for the notes line
-pub Attempts-unsaid : (h p : ℕ) (start now : Ends) (end : WalkEnd) → Walks (HasShown h p) start now (Ok end) → Attempts show_promise start now (Err stops.Memory)
+pub Attempts-unsaid : (h p : ℕ) (start now : Ends) (end : WalkEnd) → Walks (HasShown h p) start now (Ok end) → AttemptsUncounted show_promise start now (Err stops.Memory)
 Attempts-unsaid h p start now walks.Whole w =
     let q : WalksToEnd (HasShown h p) start now = w.as_far in
     memory start now q.input (item_lines q.session q.list) q.told
@@ -175,12 +175,12 @@ Attempts-unsaid h p start now walks.Halted w = absurd w.as_far.given.as_far
 
 -- the whole input was shown
 pub Attempts-whole : (h p : ℕ) (start now : Ends) (finish : Finish) → Walks (HasShown h p) start now (Ok walks.Whole)
-    → finish.status ≡ statuses.Done → string_bytes finish.line ≡ show_line h p → Attempts show_promise start now (Ok finish)
+    → finish.status ≡ statuses.Done → string_bytes finish.line ≡ show_line h p → AttemptsUncounted show_promise start now (Ok finish)
 Attempts-whole h p start now finish w status line =
     let q : WalksToEnd (HasShown h p) start now = w.as_far in
     let s = q.given.as_far in
     let headers : h ≡ length q.list - length (packets_of q.list) = omega (arith, s.counted, s.packets_are) in
-    record {
+    λ c d. record {
       input = q.input;
       told = q.told;
       read = ReadsRecords-items takes_all (Some q.session) q.list start.input.left now.input.left tt q.reads;
@@ -192,6 +192,7 @@ Attempts-whole h p start now finish w status line =
         line_is = line ∙ ap (λ (n : ℕ). show_line n p) headers
             ∙ ap (show_line (length q.list - length (packets_of q.list))) s.packets_are;
         read = q.end;
+        worked = tt;
         input_fault = q.no_fault;
         output = s.written.as_far.0;
         output_fault = s.written.as_far.1;
@@ -200,11 +201,11 @@ Attempts-whole h p start now finish w status line =
 
 -- the input is refused
 pub Attempts-refused : (h p : ℕ) (start now : Ends) (end : ReadEnd) (finish : Finish) → Walks (HasShown h p) start now (Ok (walks.Refused end))
-    → finish.status ≡ refusal_status end → string_bytes finish.line ≡ refusal_line end → Attempts show_promise start now (Ok finish)
+    → finish.status ≡ refusal_status end → string_bytes finish.line ≡ refusal_line end → AttemptsUncounted show_promise start now (Ok finish)
 Attempts-refused h p start now end finish w status line =
     let q : WalksToRefusal (HasShown h p) start now end = w.as_far in
     let lines = so_far h p q.session q.list q.reads.front start.output now.output q.reads.records q.given in
-    record {
+    λ c d. record {
       input = q.input;
       told = q.told;
       read = ReadsRecords-items takes_all q.session q.list start.input.left now.input.left (all_taken q.session q.list) q.reads;
@@ -215,6 +216,7 @@ Attempts-refused h p start now end finish w status line =
         of_ending = subst IsOfEnding (sym status) q.of_input;
         line_is = line;
         read = tt;
+        worked = tt;
         input_fault = q.no_fault;
         output = lines.as_far.0;
         output_fault = lines.as_far.1;

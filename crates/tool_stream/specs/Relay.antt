@@ -1,5 +1,5 @@
 -- What `relay` sends, how it ends on an input, and what it promises.
-use Rattle.std.specs.Prelude.{ℕ, ◌≡◌, ◌⊎◌, Bool, List, ◌++◌, length, flat_map, codes, Some, if◌then◌else◌}
+use Rattle.std.specs.Prelude.{ℕ, ◌≡◌, ◌⊎◌, Bool, List, ◌++◌, length, flat_map, codes, None, Some, if◌then◌else◌}
 use Rattle.std.specs.Fmt.{decimal}
 use Rattle.bats_model.specs.Session.{SessionData}
 use Rattle.bats_model.specs.Kept.{kept_of, kept_count, AreHeld}
@@ -54,6 +54,7 @@ relayed_ending session seed rule packets numbers = record {
   line = relay_line (length packets) (kept_count packets) (length numbers)
       (length (sent_packets session seed rule packets numbers));
   reach = to_end;
+  work = None;
 }
 
 -- the whole input is a packet file, and no more of its packets are kept than may be: the ending is that of what is sent

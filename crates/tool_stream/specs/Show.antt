@@ -54,6 +54,7 @@ show_ending session list None = record {
   output = lines_read session list;
   line = show_line (length list - length (packets_of list)) (length (packets_of list));
   reach = to_end;
+  work = None;
 }
 show_ending session list (Some end) = refused_ending (lines_read session list) end
 

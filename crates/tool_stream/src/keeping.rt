@@ -49,7 +49,7 @@ fn keep<C: Ledger, L: Ledger>(
     intake.packets += 1;
     match intake
         .mixer
-        .offer(packet, counters.coef_steps, counters.steps)
+        .offer(packet, &mut counters.coef_steps, &mut counters.steps)
     {
         Ok(_) => {
             let _few = intake.mixer.held().rows();
@@ -113,7 +113,7 @@ impl Keeper {
     }
 }
 
-impl<C: Ledger, L: Ledger> Taker<Counters<'_, C, L>> for Keeper {
+impl<C: Ledger, L: Ledger> Taker<Counters<C, L>> for Keeper {
     ghost gives = { λ first given now counters session list start output result.
         Keeps first.seed now.seed now.intake session list start output result };
 
@@ -123,7 +123,7 @@ impl<C: Ledger, L: Ledger> Taker<Counters<'_, C, L>> for Keeper {
         session: &Session,
         item: Item,
         output: &mut O,
-        counters: &mut Counters<'_, C, L>,
+        counters: &mut Counters<C, L>,
     ) -> Result<Taken, Stop> {
         let mut intake = self.take_intake(alloc, session);
         let taken = keep_item(&mut intake, &item, counters);

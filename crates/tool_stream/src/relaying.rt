@@ -3,7 +3,7 @@ ghost use Rattle.std.specs.Prelude.{ℕ, ◌≡◌, ◌≤◌, List, string_byte
 ghost use Rattle.bats_model.specs.Session.{SessionData};
 ghost use Rattle.bats_model.specs.declared.item.Item.{Item};
 ghost use Rattle.bats_relay.specs.Mixer.{sent_of};
-ghost use Rattle.tool_run.specs.Attempt.{Attempts};
+ghost use Rattle.tool_run.specs.Attempt.{AttemptsUncounted};
 ghost use Rattle.tool_run.specs.declared.status.Status.TheVariants as statuses;
 ghost use Rattle.tool_stream.specs.Relay.{relay_line, relay_promise};
 ghost use Rattle.tool_stream.specs.steps.Relaying.{SendsAs};
@@ -12,7 +12,6 @@ ghost use Rattle.tool_stream.specs.steps.Keeping.{StandsForItems};
 use crate::keeping::{Intake, Keeper};
 use crate::sending::send_by_rule;
 use bats_io::{Sink, Source};
-use gf_rows::Steps;
 use std::alloc::{AllocError, Global};
 use std::sync::ledger::Ledger;
 use tool_records::{Counters, WalkEnd, refused, walk};
@@ -63,18 +62,16 @@ pub fn relay<S: Source, O: Sink, C: Ledger, L: Ledger>(
     count: u32,
     input: &mut S,
     output: &mut O,
-    coef_steps: &mut Steps<C>,
-    steps: &mut Steps<L>,
+    counters: &mut Counters<C, L>,
 ) -> Result<Finish, Stop>
     requires { count ≤ 64 }
-    ensures { Attempts (relay_promise seed extra count)
+    ensures { AttemptsUncounted (relay_promise seed extra count)
         (record { input = S.state input.old; output = O.state output.old })
         (record { input = S.state input.new; output = O.state output.new })
         result }
 {
     let mut keeper = Keeper::new(seed);
-    let mut counters = Counters { coef_steps, steps };
-    match walk(alloc, input, &mut keeper, output, &mut counters)? {
+    match walk(alloc, input, &mut keeper, output, counters)? {
         WalkEnd::Whole => send_all(alloc, extra, count, keeper.into_intake(), output),
         WalkEnd::Refused(end) => Ok(refused(alloc, end)?),
         WalkEnd::Halted => Ok(refuse(alloc, Status::Limit, "bats: limit kept\n")?),

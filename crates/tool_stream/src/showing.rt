@@ -3,7 +3,7 @@ ghost use Rattle.std.specs.Prelude.{◌≡◌, ◌+◌, ◌-◌, ◌<◌, ◌^�
 ghost use Rattle.std.specs.Result.{result_err};
 ghost use Rattle.bats_model.specs.PacketFile.{packets_of};
 ghost use Rattle.tool_run.specs.declared.status.Status.TheVariants as statuses;
-ghost use Rattle.tool_run.specs.Attempt.{Attempts};
+ghost use Rattle.tool_run.specs.Attempt.{AttemptsUncounted};
 ghost use Rattle.tool_run.specs.Writes.{Writes};
 ghost use Rattle.tool_stream.specs.Show.{header_line, packet_line, item_line, show_line, show_promise};
 ghost use Rattle.tool_stream.specs.steps.Shown.{HasShown, sizes_part, header_rest};
@@ -171,7 +171,7 @@ pub fn show<S: Source, O: Sink>(
     input: &mut S,
     output: &mut O,
 ) -> Result<Finish, Stop>
-    ensures { Attempts show_promise
+    ensures { AttemptsUncounted show_promise
         (record { input = S.state input.old; output = O.state output.old })
         (record { input = S.state input.new; output = O.state output.new })
         result }

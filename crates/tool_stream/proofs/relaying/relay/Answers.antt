@@ -1,7 +1,7 @@
 use Rattle.std.proofs.Common.{◌∙◌, [], Option, Ok, Err, Some, refl, sym, subst}
 use Rattle.tool_run.specs.declared.stop.Stop.{Stop}
 use Rattle.tool_run.specs.Streams.{Ends}
-use Rattle.tool_run.proofs.Attempts.{Attempts-exit}
+use Rattle.tool_run.proofs.Attempts.{AttemptsUncounted-exit}
 use Rattle.tool_records.specs.declared.walking.WalkEnd.{WalkEnd}
 use Rattle.tool_records.specs.declared.walking.WalkEnd.TheVariants as walks
 use Rattle.tool_records.specs.Keeping.{kept_limit_ending}
@@ -26,7 +26,7 @@ returns-in_err-walk g c =
     let after : Ends = (record { input = g.S.Source.state c.walk.new.input; output = g.O.Sink.state c.walk.new.output }) in
     let taker = c.walk.new.taker in
     let stop : Stop = c.in_err-walk.field-0.0 in
-    Attempts-exit (relay_promise c.args.seed c.args.extra c.args.count) before after stop _ c.from_residual.ensures.1
+    AttemptsUncounted-exit (relay_promise c.args.seed c.args.extra c.args.count) before after stop _ c.from_residual.ensures.1
     (Attempts-stopped (IsRelayEnding c.args.seed c.args.extra c.args.count) before after stop
     (few_walked c.new-keeper.result.seed taker.seed taker.intake before after (Err stop) c.in_err-walk.ensures))
 

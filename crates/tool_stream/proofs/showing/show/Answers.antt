@@ -1,7 +1,7 @@
 use Rattle.std.proofs.Common.{Ok, subst}
 use Rattle.tool_run.specs.declared.stop.Stop.TheVariants as stops
 use Rattle.tool_run.specs.Streams.{Ends}
-use Rattle.tool_run.proofs.Attempts.{Attempts-exit}
+use Rattle.tool_run.proofs.Attempts.{AttemptsUncounted-exit}
 use Rattle.tool_records.specs.declared.walking.WalkEnd.{WalkEnd}
 use Rattle.tool_records.specs.Walk.{Walks}
 use Rattle.tool_stream.specs.Show.{show_promise}
@@ -16,21 +16,21 @@ pub returns-in_err-walk : goal.returns-in_err-walk
 returns-in_err-walk g c =
     let before : Ends = (record { input = g.S.Source.state c.args.input.now; output = g.O.Sink.state c.args.output.now }) in
     let after : Ends = (record { input = g.S.Source.state c.walk.new.input; output = g.O.Sink.state c.walk.new.output }) in
-    Attempts-exit show_promise before after c.in_err-walk.field-0.0 _ c.from_residual.ensures.1
+    AttemptsUncounted-exit show_promise before after c.in_err-walk.field-0.0 _ c.from_residual.ensures.1
     (Attempts-stopped c.walk.new.taker.headers c.walk.new.taker.packets before after c.in_err-walk.field-0.0 c.in_err-walk.ensures)
 
 pub returns-in_err-done-in-Whole : goal.returns-in_err-done-in-Whole
 returns-in_err-done-in-Whole g c =
     let before : Ends = (record { input = g.S.Source.state c.args.input.now; output = g.O.Sink.state c.args.output.now }) in
     let after : Ends = (record { input = g.S.Source.state c.walk.new.input; output = g.O.Sink.state c.walk.new.output }) in
-    Attempts-exit show_promise before after stops.Memory _ c.from_residual-in_err-done-in-Whole.ensures.1
+    AttemptsUncounted-exit show_promise before after stops.Memory _ c.from_residual-in_err-done-in-Whole.ensures.1
     (Attempts-unsaid c.walk.new.taker.headers c.walk.new.taker.packets before after c.in_ok-walk.field-0 c.in_ok-walk.ensures)
 
 pub returns-in_err-refused-in-Refused : goal.returns-in_err-refused-in-Refused
 returns-in_err-refused-in-Refused g c =
     let before : Ends = (record { input = g.S.Source.state c.args.input.now; output = g.O.Sink.state c.args.output.now }) in
     let after : Ends = (record { input = g.S.Source.state c.walk.new.input; output = g.O.Sink.state c.walk.new.output }) in
-    Attempts-exit show_promise before after stops.Memory _ c.from_residual-in_err-refused-in-Refused.ensures.1
+    AttemptsUncounted-exit show_promise before after stops.Memory _ c.from_residual-in_err-refused-in-Refused.ensures.1
     (Attempts-unsaid c.walk.new.taker.headers c.walk.new.taker.packets before after c.in_ok-walk.field-0 c.in_ok-walk.ensures)
 
 pub returns-in_ok-done-in-Whole : goal.returns-in_ok-done-in-Whole
