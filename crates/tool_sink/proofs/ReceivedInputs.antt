@@ -10,7 +10,7 @@ use Rattle.bats_model.specs.declared.read_end.ReadEnd.{ReadEnd}
 use Rattle.tool_run.specs.declared.finish.Finish.{Finish}
 use Rattle.tool_run.specs.declared.stop.Stop.{Stop}
 use Rattle.tool_run.specs.declared.stop.Stop.TheVariants as stops
-use Rattle.tool_run.specs.Attempt.{Attempts}
+use Rattle.tool_run.specs.Attempt.{AttemptsUncounted}
 use Rattle.tool_run.specs.Ending.{Ending}
 use Rattle.tool_run.specs.Streams.{Ends}
 use Rattle.tool_records.specs.declared.walking.Taken.{Taken}
@@ -42,78 +42,78 @@ keeps_few_as intake session list (Ok takes.Halts) h = h
 keeps_few_as intake session list (Err stop) h = h
 
 -- it keeps few packets and writes nothing
-keeps_few : (intake : Option Intake) (session : SessionData) (list : List Item) (start now : OutputState) (taken : Result Taken Stop)
-    → Receives intake session list start now taken → KeepsFew session list start now taken
-keeps_few intake session list start now taken h =
+keeps_few : (intake : Option Intake) (first last : ℕ) (session : SessionData) (list : List Item) (start now : OutputState) (taken : Result Taken Stop)
+    → Receives intake first last session list start now taken → KeepsFew session list start now taken
+keeps_few intake first last session list start now taken h =
     record { as_far = keeps_few_as intake session list taken h.as_far; nothing_written = h.nothing_written }
 
-pub kept_few : (intake : Option Intake) (start now : Ends) (result : Result WalkEnd Stop) → Walks (Receives intake) start now result
+pub kept_few : (intake : Option Intake) (first last : ℕ) (start now : Ends) (result : Result WalkEnd Stop) → Walks (Receives intake first last) start now result
     → Walks KeepsFew start now result
-kept_few intake start now result w = Walks-map (Receives intake) KeepsFew start now result (keeps_few intake) w
+kept_few intake first last start now result w = Walks-map (Receives intake first last) KeepsFew start now result (keeps_few intake first last) w
 
 -- how the walk ended, once that is known
-pub walked_so : (intake : Option Intake) (start now : Ends) (one other : WalkEnd) → one ≡ other → Walks (Receives intake) start now (Ok one)
-    → Walks (Receives intake) start now (Ok other)
-walked_so intake start now one other e w = subst (λ (end : WalkEnd). Walks (Receives intake) start now (Ok end)) e w
+pub walked_so : (intake : Option Intake) (first last : ℕ) (start now : Ends) (one other : WalkEnd) → one ≡ other → Walks (Receives intake first last) start now (Ok one)
+    → Walks (Receives intake first last) start now (Ok other)
+walked_so intake first last start now one other e w = subst (λ (end : WalkEnd). Walks (Receives intake first last) start now (Ok end)) e w
 
 -- ---- the input isn't taken whole
 
-ended : (start now : Ends) (finish : Finish) → Attempts stopping_promise start now (Ok finish) → ReceivesAll start now (Ok (receptions.Ended finish))
-ended start now finish a = record { as_far = a }
+ended : (first last : ℕ) (start now : Ends) (finish : Finish) → AttemptsUncounted stopping_promise start now (Ok finish) → ReceivesAll first last start now (Ok (receptions.Ended finish))
+ended first last start now finish a = record { as_far = a }
 
-stopped : (start now : Ends) (stop : Stop) → Attempts stopping_promise start now (Err stop) → ReceivesAll start now (Err stop)
-stopped start now stop a = record { as_far = a }
+stopped : (first last : ℕ) (start now : Ends) (stop : Stop) → AttemptsUncounted stopping_promise start now (Err stop) → ReceivesAll first last start now (Err stop)
+stopped first last start now stop a = record { as_far = a }
 
 -- a `?` that passes on what stopped the run
-exit : (start now : Ends) (stop : Stop) (result : Result Reception Stop) → IsErrAnd result (λ y. y ≡ stop)
-    → Attempts stopping_promise start now (Err stop) → ReceivesAll start now result
-exit start now stop result is a =
+exit : (first last : ℕ) (start now : Ends) (stop : Stop) (result : Result Reception Stop) → IsErrAnd result (λ y. y ≡ stop)
+    → AttemptsUncounted stopping_promise start now (Err stop) → ReceivesAll first last start now result
+exit first last start now stop result is a =
     let e = err_from_is_err_and result is in
-    subst (λ (r : Result Reception Stop). ReceivesAll start now r) (sym e.1)
-    (subst (λ (x : Stop). ReceivesAll start now (Err x)) (sym e.2) (stopped start now stop a))
+    subst (λ (r : Result Reception Stop). ReceivesAll first last start now r) (sym e.1)
+    (subst (λ (x : Stop). ReceivesAll first last start now (Err x)) (sym e.2) (stopped first last start now stop a))
 
 abbrev as_stopping : (input : List ℕ) (ending : Ending) → StopsKeeping input ending → StopsKeeping input ending
 as_stopping input ending stops = stops
 
-module _ (intake : Option Intake) (start now : Ends) where
-  refused_so : (end : ReadEnd) (result : Result Finish Stop) → Walks (Receives intake) start now (Ok (walks.Refused end))
-      → FinishesBy (refused_ending [] end) result → Attempts stopping_promise start now result
+module _ (intake : Option Intake) (first last : ℕ) (start now : Ends) where
+  refused_so : (end : ReadEnd) (result : Result Finish Stop) → Walks (Receives intake first last) start now (Ok (walks.Refused end))
+      → FinishesBy (refused_ending [] end) result → AttemptsUncounted stopping_promise start now result
   refused_so end result w finishes =
-      Attempts-refused StopsKeeping start now as_stopping end result (kept_few intake start now (Ok (walks.Refused end)) w) finishes
+      Attempts-refused StopsKeeping start now as_stopping end result (kept_few intake first last start now (Ok (walks.Refused end)) w) finishes
 
-  full_so : (result : Result Finish Stop) → Walks (Receives intake) start now (Ok walks.Halted)
-      → FinishesBy kept_limit_ending result → Attempts stopping_promise start now result
-  full_so result w finishes = Attempts-full StopsKeeping start now as_stopping result (kept_few intake start now (Ok walks.Halted) w) finishes
+  full_so : (result : Result Finish Stop) → Walks (Receives intake first last) start now (Ok walks.Halted)
+      → FinishesBy kept_limit_ending result → AttemptsUncounted stopping_promise start now result
+  full_so result w finishes = Attempts-full StopsKeeping start now as_stopping result (kept_few intake first last start now (Ok walks.Halted) w) finishes
 
-  pub ReceivesAll-refused : (end : ReadEnd) (finish : Finish) → Walks (Receives intake) start now (Ok (walks.Refused end))
+  pub ReceivesAll-refused : (end : ReadEnd) (finish : Finish) → Walks (Receives intake first last) start now (Ok (walks.Refused end))
       → finish.status ≡ refusal_status end → string_bytes finish.line ≡ (refused_ending [] end).line
-      → ReceivesAll start now (Ok (receptions.Ended finish))
-  ReceivesAll-refused end finish w status line = ended start now finish (refused_so end (Ok finish) w (status, line))
+      → ReceivesAll first last start now (Ok (receptions.Ended finish))
+  ReceivesAll-refused end finish w status line = ended first last start now finish (refused_so end (Ok finish) w (status, line))
 
   pub ReceivesAll-refused_unsaid : (end : ReadEnd) (result : Result Reception Stop) → IsErrAnd result (λ y. y ≡ stops.Memory)
-      → Walks (Receives intake) start now (Ok (walks.Refused end)) → ReceivesAll start now result
-  ReceivesAll-refused_unsaid end result is w = exit start now stops.Memory result is (refused_so end (Err stops.Memory) w refl)
+      → Walks (Receives intake first last) start now (Ok (walks.Refused end)) → ReceivesAll first last start now result
+  ReceivesAll-refused_unsaid end result is w = exit first last start now stops.Memory result is (refused_so end (Err stops.Memory) w refl)
 
-  pub ReceivesAll-full : (finish : Finish) → Walks (Receives intake) start now (Ok walks.Halted)
+  pub ReceivesAll-full : (finish : Finish) → Walks (Receives intake first last) start now (Ok walks.Halted)
       → finish.status ≡ kept_limit_ending.status → string_bytes finish.line ≡ kept_limit_ending.line
-      → ReceivesAll start now (Ok (receptions.Ended finish))
-  ReceivesAll-full finish w status line = ended start now finish (full_so (Ok finish) w (status, line))
+      → ReceivesAll first last start now (Ok (receptions.Ended finish))
+  ReceivesAll-full finish w status line = ended first last start now finish (full_so (Ok finish) w (status, line))
 
   pub ReceivesAll-full_unsaid : (result : Result Reception Stop) → IsErrAnd result (λ y. y ≡ stops.Memory)
-      → Walks (Receives intake) start now (Ok walks.Halted) → ReceivesAll start now result
-  ReceivesAll-full_unsaid result is w = exit start now stops.Memory result is (full_so (Err stops.Memory) w refl)
+      → Walks (Receives intake first last) start now (Ok walks.Halted) → ReceivesAll first last start now result
+  ReceivesAll-full_unsaid result is w = exit first last start now stops.Memory result is (full_so (Err stops.Memory) w refl)
 
   pub ReceivesAll-stopped : (stop : Stop) (result : Result Reception Stop) → IsErrAnd result (λ y. y ≡ stop)
-      → Walks (Receives intake) start now (Err stop) → ReceivesAll start now result
+      → Walks (Receives intake first last) start now (Err stop) → ReceivesAll first last start now result
   ReceivesAll-stopped stop result is w =
-      exit start now stop result is (Attempts-stopped StopsKeeping start now stop (kept_few intake start now (Err stop) w))
+      exit first last start now stop result is (Attempts-stopped StopsKeeping start now stop (kept_few intake first last start now (Err stop) w))
 
 -- ---- what a reception says
 
-pub ReceivesAll-all : (start now : Ends) (reception : Reception) (intake : Intake) → reception ≡ receptions.Whole intake
-    → ReceivesAll start now (Ok reception) → WalksToEnd (Receives (Some intake)) start now
-ReceivesAll-all start now reception intake e h = (subst (λ (r : Reception). ReceivesAll start now (Ok r)) e h).as_far
+pub ReceivesAll-all : (first last : ℕ) (start now : Ends) (reception : Reception) (intake : Intake) → reception ≡ receptions.Whole intake
+    → ReceivesAll first last start now (Ok reception) → WalksToEnd (Receives (Some intake) first last) start now
+ReceivesAll-all first last start now reception intake e h = (subst (λ (r : Reception). ReceivesAll first last start now (Ok r)) e h).as_far
 
-pub ReceivesAll-ended : (start now : Ends) (reception : Reception) (finish : Finish) → reception ≡ receptions.Ended finish
-    → ReceivesAll start now (Ok reception) → Attempts stopping_promise start now (Ok finish)
-ReceivesAll-ended start now reception finish e h = (subst (λ (r : Reception). ReceivesAll start now (Ok r)) e h).as_far
+pub ReceivesAll-ended : (first last : ℕ) (start now : Ends) (reception : Reception) (finish : Finish) → reception ≡ receptions.Ended finish
+    → ReceivesAll first last start now (Ok reception) → AttemptsUncounted stopping_promise start now (Ok finish)
+ReceivesAll-ended first last start now reception finish e h = (subst (λ (r : Reception). ReceivesAll first last start now (Ok r)) e h).as_far

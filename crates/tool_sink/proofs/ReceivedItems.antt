@@ -1,5 +1,5 @@
 -- What a receiver has received of the items of a packet file.
-use Rattle.std.proofs.Common.{ℕ, ◌≡◌, ◌≤◌, List, [], ◌∷◌, ◌++◌, Some, Result, Ok, Err, refl, sym, ap, ◌∙◌, subst, append-nil}
+use Rattle.std.proofs.Common.{ℕ, ◌≡◌, ◌≤◌, ◌+◌, ◌*◌, List, [], ◌∷◌, ◌++◌, length, Some, Result, Ok, Err, refl, sym, ap, ◌∙◌, subst, append-nil, length-append, arith}
 use Rattle.bats_io.specs.Streams.{OutputState}
 use Rattle.bats_batch.specs.Basis.{IsTaken}
 use Rattle.bats_batch.specs.Held.{kept_at, row_count, max_kept}
@@ -17,7 +17,7 @@ use Rattle.tool_records.specs.declared.walking.Taken.{Taken}
 use Rattle.tool_records.specs.declared.walking.Taken.TheVariants as takes
 use Rattle.tool_records.proofs.KeptItems.{AreFew-nothing, is_too_many, packets_of-more}
 use Rattle.tool_sink.specs.declared.receiving.Intake.{Intake}
-use Rattle.tool_sink.specs.steps.Receiving.{Receives, ReceivesAs, StandsForAll, TakesIn, TakesItem, IsOneTooMany}
+use Rattle.tool_sink.specs.steps.Receiving.{Receives, ReceivesAs, StandsForAll, TakesIn, TakesItem, IsOneTooMany, item_work}
 
 -- ---- one packet
 
@@ -93,9 +93,35 @@ received_as session list item before after (Ok takes.Halts) same s t =
 received_as session list item before after (Err stop) same s t =
     (t, record { before = list; item = item; list_is = refl; few = s.few })
 
+one_more : (n m : ℕ) → (n + 1) * m ≡ n * m + m
+one_more n m = omega arith
+
+-- operations on payloads for so many packets, and for one item more
+work_more : (session : SessionData) (list : List Item) (item : Item)
+    → length (packets_of (list ++ item ∷ [])) * session.m ≡ length (packets_of list) * session.m + item_work session item
+unfolding packets_of
+work_more session list (items.Header at) =
+    let all : length (packets_of (list ++ items.Header at ∷ [])) ≡ length (packets_of list) =
+    ap length (packets_of-append list (items.Header at ∷ [])) ∙ ap length (append-nil (packets_of list)) in
+    let same : length (packets_of (list ++ items.Header at ∷ [])) * session.m ≡ length (packets_of list) * session.m =
+    ap (λ (n : ℕ). n * session.m) all in
+    omega (arith, same)
+work_more session list (items.Packet at packet) =
+    let all : length (packets_of (list ++ items.Packet at packet ∷ [])) ≡ length (packets_of list) + 1 =
+    ap length (packets_of-append list (items.Packet at packet ∷ [])) ∙ length-append (packets_of list) (packet ∷ []) in
+    ap (λ (n : ℕ). n * session.m) all ∙ one_more (length (packets_of list)) session.m
+
 -- an item more was given to the decoder
-pub Receives-item : (session : SessionData) (list : List Item) (item : Item) (before after : Intake) (start now : OutputState)
-    (result : Result Taken Stop) → after.session ≡ before.session → now ≡ start → StandsForAll session list before
-    → TakesItem item before.decoder after.decoder result → Receives (Some after) session (list ++ item ∷ []) start now result
-Receives-item session list item before after start now result same nothing s t =
-    record { as_far = received_as session list item before after result same s t; nothing_written = nothing }
+pub Receives-item : (session : SessionData) (list : List Item) (item : Item) (before after : Intake) (first mid last : ℕ)
+    (start now : OutputState) (result : Result Taken Stop) → after.session ≡ before.session → now ≡ start → StandsForAll session list before
+    → TakesItem item before.decoder after.decoder result → mid ≤ first + length (packets_of list) * session.m
+    → last ≤ mid + item_work before.decoder.held.session item
+    → Receives (Some after) first last session (list ++ item ∷ []) start now result
+Receives-item session list item before after first mid last start now result same nothing s t so_far more =
+    let step : last ≤ mid + item_work session item =
+    subst (λ (x : SessionData). last ≤ mid + item_work x item) s.held_session more in
+    record {
+      as_far = received_as session list item before after result same s t;
+      nothing_written = nothing;
+      worked = omega (arith, so_far, step, work_more session list item);
+    }

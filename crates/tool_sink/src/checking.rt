@@ -1,10 +1,11 @@
 //! The command `check`.
-ghost use Rattle.std.specs.Prelude.{◌≡◌, ◌<◌, ◌++◌, List, length, codes, string_bytes, IfOk};
+ghost use Rattle.std.specs.Prelude.{◌≡◌, ◌<◌, ◌≤◌, ◌+◌, ◌*◌, ◌++◌, List, length, codes, string_bytes, IfOk};
 ghost use Rattle.std.specs.Fmt.{decimal};
 ghost use Rattle.bats_decode.specs.Decoder.{StandsFor};
 ghost use Rattle.bats_model.specs.declared.packet.Packet.{Packet};
 ghost use Rattle.bats_words.specs.Options.{HasWorkers};
 ghost use Rattle.tool_run.specs.Attempt.{Attempts};
+ghost use Rattle.tool_run.specs.Streams.{Counters as Counts};
 ghost use Rattle.tool_sink.specs.Check.{answer_text, check_promise};
 ghost use Rattle.tool_sink.specs.steps.Lines.{held_lines, line_at, numbers_line};
 ghost use Rattle.tool_sink.specs.steps.Telling.{IsListEnding, TellsAs};
@@ -14,7 +15,6 @@ use crate::receiving::{Intake, Reception, receive_all};
 use bats_batch::Held;
 use bats_io::{Sink, Source};
 use bats_model::{Answer, Session};
-use gf_rows::Steps;
 use std::alloc::{AllocError, Global};
 use std::sync::ledger::Ledger;
 use std::thread::Threads;
@@ -102,9 +102,11 @@ fn write_lines<R: Threads + Sync, O: Sink, C: Ledger, L: Ledger>(
     counters: &mut Counters<C, L>,
 ) -> Result<Finish, Stop>
     requires { HasWorkers workers }
-    ensures { (packets : List Packet) → StandsFor packets intake.decoder → intake.decoder.packets ≡ length packets
-        → intake.decoder.held.session ≡ intake.session
-        → TellsAs (IsListEnding intake.session packets)
+    ensures { (packets : List Packet) (first : Counts) → StandsFor packets intake.decoder
+        → intake.decoder.packets ≡ length packets → intake.decoder.held.session ≡ intake.session
+        → counters.old.steps ≤ first.payloads + length packets * intake.decoder.held.session.m
+        → TellsAs (IsListEnding intake.session packets) first
+        (record { coefficients = counters.new.coef_steps; payloads = counters.new.steps })
         (O.state output.old)
         (O.state output.new)
         result }
@@ -112,7 +114,7 @@ fn write_lines<R: Threads + Sync, O: Sink, C: Ledger, L: Ledger>(
     let mut lines = held_lines(alloc, &intake.session, intake.decoder.held())?;
     let solved = intake
         .decoder
-        .solve(rt, workers, counters.coef_steps, counters.steps)?;
+        .solve(rt, workers, &mut counters.coef_steps, &mut counters.steps)?;
     let finish = finish_of(alloc, "check", &solved)?;
     add_answer(alloc, &solved.answer, &mut lines)?;
     write_bytes(output, lines.as_bytes())?;
@@ -127,20 +129,18 @@ pub fn check<R: Threads + Sync, S: Source, O: Sink, C: Ledger, L: Ledger>(
     workers: u32,
     input: &mut S,
     output: &mut O,
-    coef_steps: &mut Steps<C>,
-    steps: &mut Steps<L>,
+    counters: &mut Counters<C, L>,
 ) -> Result<Finish, Stop>
     requires { HasWorkers workers }
     ensures { Attempts check_promise
         (record { input = S.state input.old; output = O.state output.old })
         (record { input = S.state input.new; output = O.state output.new })
+        (record { coefficients = counters.old.coef_steps; payloads = counters.old.steps })
+        (record { coefficients = counters.new.coef_steps; payloads = counters.new.steps })
         result }
 {
-    let mut counters = Counters { coef_steps, steps };
-    match receive_all(alloc, input, output, &mut counters)? {
-        Reception::Whole(intake) => {
-            write_lines(rt, alloc, workers, intake, output, &mut counters)
-        }
+    match receive_all(alloc, input, output, counters)? {
+        Reception::Whole(intake) => write_lines(rt, alloc, workers, intake, output, counters),
         Reception::Ended(finish) => Ok(finish),
     }
 }

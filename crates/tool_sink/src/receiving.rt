@@ -1,10 +1,10 @@
 //! Receives the packets of an input.
-ghost use Rattle.std.specs.Prelude.{◌≡◌, List, IsSome, Some, None};
+ghost use Rattle.std.specs.Prelude.{◌≡◌, ◌≤◌, ◌+◌, List, IsSome, Some, None};
 ghost use Rattle.bats_model.specs.PacketFile.{HasShape};
 ghost use Rattle.bats_model.specs.declared.item.Item.{Item};
 ghost use Rattle.bats_model.specs.declared.item.Item.TheVariants as items;
 ghost use Rattle.tool_records.specs.steps.Came.{HasShapeOf};
-ghost use Rattle.tool_sink.specs.steps.Receiving.{Receives, StandsForItems, TakesItem};
+ghost use Rattle.tool_sink.specs.steps.Receiving.{Receives, StandsForItems, TakesItem, item_work};
 ghost use Rattle.tool_sink.specs.steps.Reception.{ReceivesAll};
 
 use bats_batch::HeldEnd;
@@ -49,9 +49,10 @@ fn offer<C: Ledger, L: Ledger>(
     counters: &mut Counters<C, L>,
 ) -> Result<Taken, Stop>
     requires { HasShape decoder.old.held.session packet.now }
-    ensures { TakesItem (items.Packet at packet.now) decoder.old decoder.new result }
+    ensures taken { TakesItem (items.Packet at packet.now) decoder.old decoder.new result }
+    ensures steps { counters.new.steps ≤ counters.old.steps + decoder.old.held.session.m }
 {
-    match decoder.offer(packet, counters.coef_steps, counters.steps) {
+    match decoder.offer(packet, &mut counters.coef_steps, &mut counters.steps) {
         Ok(()) => {
             let _few = decoder.held().rows();
             Ok(Taken::GoesOn)
@@ -68,7 +69,8 @@ fn receive<C: Ledger, L: Ledger>(
     counters: &mut Counters<C, L>,
 ) -> Result<Taken, Stop>
     requires { HasShapeOf decoder.old.held.session item.now }
-    ensures { TakesItem item.now decoder.old decoder.new result }
+    ensures taken { TakesItem item.now decoder.old decoder.new result }
+    ensures steps { counters.new.steps ≤ counters.old.steps + item_work decoder.old.held.session item.now }
 {
     match item {
         Item::Header { .. } => Ok(Taken::GoesOn),
@@ -110,9 +112,9 @@ impl Receiver {
     }
 }
 
-impl<C: Ledger, L: Ledger> Taker<Counters<'_, C, L>> for Receiver {
+impl<C: Ledger, L: Ledger> Taker<Counters<C, L>> for Receiver {
     ghost gives = { λ first given now counters session list start output result.
-        Receives now.intake session list start output result };
+        Receives now.intake given.steps counters.steps session list start output result };
 
     fn take<O: Sink>(
         &mut self,
@@ -120,7 +122,7 @@ impl<C: Ledger, L: Ledger> Taker<Counters<'_, C, L>> for Receiver {
         session: &Session,
         item: Item,
         output: &mut O,
-        counters: &mut Counters<'_, C, L>,
+        counters: &mut Counters<C, L>,
     ) -> Result<Taken, Stop> {
         let mut intake = self.take_intake(alloc, session);
         let taken = receive(&mut intake.decoder, &item, counters);
@@ -137,7 +139,7 @@ pub fn receive_all<S: Source, O: Sink, C: Ledger, L: Ledger>(
     output: &mut O,
     counters: &mut Counters<C, L>,
 ) -> Result<Reception, Stop>
-    ensures { ReceivesAll
+    ensures { ReceivesAll counters.old.steps counters.new.steps
         (record { input = S.state input.old; output = O.state output.old })
         (record { input = S.state input.new; output = O.state output.new })
         result }

@@ -1,10 +1,11 @@
 //! The command `sink`.
-ghost use Rattle.std.specs.Prelude.{◌≡◌, ◌++◌, List, [], length, if◌then◌else◌};
+ghost use Rattle.std.specs.Prelude.{◌≡◌, ◌≤◌, ◌+◌, ◌*◌, ◌++◌, List, [], length, if◌then◌else◌};
 ghost use Rattle.std.specs.Result.{result_err};
 ghost use Rattle.bats_decode.specs.Decoder.{StandsFor};
 ghost use Rattle.bats_model.specs.declared.packet.Packet.{Packet};
 ghost use Rattle.bats_words.specs.Options.{HasWorkers};
 ghost use Rattle.tool_run.specs.Attempt.{Attempts};
+ghost use Rattle.tool_run.specs.Streams.{Counters as Counts};
 ghost use Rattle.tool_run.specs.Writes.{Writes};
 ghost use Rattle.tool_sink.specs.Sink.{answer_output, sink_promise};
 ghost use Rattle.tool_sink.specs.steps.Telling.{IsFileEnding, TellsAs};
@@ -14,7 +15,6 @@ use crate::receiving::{Reception, receive_all};
 use bats_decode::Decoder;
 use bats_io::{Sink, Source};
 use bats_model::Answer;
-use gf_rows::Steps;
 use std::alloc::Global;
 use std::sync::ledger::Ledger;
 use std::thread::Threads;
@@ -58,13 +58,15 @@ fn write_file<R: Threads + Sync, O: Sink, C: Ledger, L: Ledger>(
     counters: &mut Counters<C, L>,
 ) -> Result<Finish, Stop>
     requires { HasWorkers workers }
-    ensures { (packets : List Packet) → StandsFor packets decoder → decoder.packets ≡ length packets
-        → TellsAs (IsFileEnding both decoder.held.session packets)
+    ensures { (packets : List Packet) (first : Counts) → StandsFor packets decoder → decoder.packets ≡ length packets
+        → counters.old.steps ≤ first.payloads + length packets * decoder.held.session.m
+        → TellsAs (IsFileEnding both decoder.held.session packets) first
+        (record { coefficients = counters.new.coef_steps; payloads = counters.new.steps })
         (O.state output.old)
         (O.state output.new)
         result }
 {
-    let solved = decoder.solve(rt, workers, counters.coef_steps, counters.steps)?;
+    let solved = decoder.solve(rt, workers, &mut counters.coef_steps, &mut counters.steps)?;
     let finish = finish_of(alloc, "sink", &solved)?;
     write_answer(output, both, &solved.answer)?;
     Ok(finish)
@@ -79,17 +81,17 @@ pub fn sink<R: Threads + Sync, S: Source, O: Sink, C: Ledger, L: Ledger>(
     both: bool,
     input: &mut S,
     output: &mut O,
-    coef_steps: &mut Steps<C>,
-    steps: &mut Steps<L>,
+    counters: &mut Counters<C, L>,
 ) -> Result<Finish, Stop>
     requires { HasWorkers workers }
     ensures { Attempts (sink_promise both)
         (record { input = S.state input.old; output = O.state output.old })
         (record { input = S.state input.new; output = O.state output.new })
+        (record { coefficients = counters.old.coef_steps; payloads = counters.old.steps })
+        (record { coefficients = counters.new.coef_steps; payloads = counters.new.steps })
         result }
 {
-    let mut counters = Counters { coef_steps, steps };
-    match receive_all(alloc, input, output, &mut counters)? {
+    match receive_all(alloc, input, output, counters)? {
         Reception::Whole(intake) => write_file(
             rt,
             alloc,
@@ -97,7 +99,7 @@ pub fn sink<R: Threads + Sync, S: Source, O: Sink, C: Ledger, L: Ledger>(
             both,
             intake.decoder,
             output,
-            &mut counters,
+            counters,
         ),
         Reception::Ended(finish) => Ok(finish),
     }

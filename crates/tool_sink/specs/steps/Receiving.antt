@@ -1,5 +1,5 @@
 -- What a receiver has done of the items of a packet file.
-use Rattle.std.specs.Prelude.{ℕ, ◌≡◌, ◌≤◌, List, [], ◌∷◌, ◌++◌, Option, None, Some, Result, Ok, Err}
+use Rattle.std.specs.Prelude.{ℕ, ◌≡◌, ◌≤◌, ◌+◌, ◌*◌, List, [], ◌∷◌, ◌++◌, length, Option, None, Some, Result, Ok, Err}
 use Rattle.bats_io.specs.Streams.{OutputState}
 use Rattle.bats_batch.specs.Held.{max_kept}
 use Rattle.bats_decode.specs.Decoder.{DecoderData, StandsFor}
@@ -37,6 +37,11 @@ TakesItem item before after (Ok takes.GoesOn) = TakesIn item before after
 TakesItem item before after (Ok takes.Halts) = IsOneTooMany item before
 TakesItem item before after (Err stop) = stop ≡ stops.Memory
 
+-- operations on payloads, at most, at an item: m for a packet
+abbrev pub item_work : SessionData → Item → ℕ
+item_work session (items.Header at) = 0
+item_work session (items.Packet at packet) = session.m
+
 -- the decoder stands for the packets of these items, and no more of them are kept than may be
 pub record StandsForAll (session : SessionData) (list : List Item) (intake : Intake) : Type 0 where
   pub session_is : intake.session ≡ session
@@ -55,7 +60,10 @@ ReceivesAs intake session list (Ok takes.GoesOn) = StandsForItems intake session
 ReceivesAs intake session list (Ok takes.Halts) = EndsFull session list
 ReceivesAs intake session list (Err stop) = (stop ≡ stops.Memory) × CameAfterFew session list
 
--- what a receiver has done of these items, whose intake is this one; it writes nothing
-pub record Receives (intake : Option Intake) (session : SessionData) (list : List Item) (start now : OutputState) (result : Result Taken Stop) : Type 0 where
+-- what a receiver has done of these items, whose intake is this one; it writes nothing, and does m operations on payloads at
+-- most for each packet, of a counter that was first and is last so
+pub record Receives (intake : Option Intake) (first last : ℕ) (session : SessionData) (list : List Item) (start now : OutputState)
+    (result : Result Taken Stop) : Type 0 where
   pub as_far : ReceivesAs intake session list result
   pub nothing_written : now ≡ start
+  pub worked : last ≤ first + length (packets_of list) * session.m

@@ -14,5 +14,6 @@ receive-taken-requires g c =
 
 pub returns : goal.returns
 returns g c first given so_far =
-    Receives-item c.args.session.now so_far.list c.args.item c.take_intake-intake.result _ so_far.start (g.O.Sink.state c.args.output.now)
-    c.receive-taken.result refl so_far.given.nothing_written (c.take_intake-intake.ensures so_far.list so_far.given.as_far) c.receive-taken.ensures
+    Receives-item c.args.session.now so_far.list c.args.item c.take_intake-intake.result _ given.steps c.args.counters.now.steps
+    c.receive-taken.new.counters.steps so_far.start (g.O.Sink.state c.args.output.now) c.receive-taken.result refl so_far.given.nothing_written
+    (c.take_intake-intake.ensures so_far.list so_far.given.as_far) c.receive-taken.ensures.taken so_far.given.worked c.receive-taken.ensures.steps
