@@ -30,14 +30,14 @@ use Rattle.tool_laws.proofs.SentPackets.{Sends, packets_for, AgreesWithAll-sent,
 
 -- ---- packets with which a file agrees
 
-GivesBack-answer : (both : Bool) (session : SessionData) (packets others : List Packet) (file : List ℕ) (answer : Answer)
+GivesBack-answer : (both : Bool) (session other : SessionData) (packets others : List Packet) (inactive : ℕ) (file : List ℕ) (answer : Answer)
     → kept_count packets ≤ max_kept → IsRightAnswer session packets answer → AgreesWithAll session packets file
-    → GivesBack session packets file (answer_ending both others answer)
-GivesBack-answer both session packets others file (File f) few right a =
+    → GivesBack session packets file (answer_ending both other others inactive answer)
+GivesBack-answer both session other packets others inactive file (File f) few right a =
     let same : f ≡ file = sym (right.only file a) in
-    inl (few, inl (refl, same, record { agrees = a; only = λ other b. right.only other b ∙ same }))
-GivesBack-answer both session packets others file Inconsistent few right a = absurd (right.none file a)
-GivesBack-answer both session packets others file (NeedMore s first second) few right a =
+    inl (few, inl (refl, same, record { agrees = a; only = λ g b. right.only g b ∙ same }))
+GivesBack-answer both session other packets others inactive file Inconsistent few right a = absurd (right.none file a)
+GivesBack-answer both session other packets others inactive file (NeedMore s first second) few right a =
     inl (
       few,
       inr (
@@ -59,23 +59,24 @@ gives_back session list input file both ending h a (inl k) =
     let few : kept_count (packets_of list) ≤ max_kept =
     subst (λ (x : List Item). kept_count (packets_of x) ≤ max_kept) (sym same.1) k.few in
     subst (GivesBack session (packets_of list) file) (sym k.ending_is)
-    (GivesBack-answer both session (packets_of list) (packets_of k.list) file k.answer few right a)
+    (GivesBack-answer both session k.session (packets_of list) (packets_of k.list) (length k.inactive) file k.answer few right a)
 gives_back session list input file both ending h a (inr (inl k)) =
     absurd (no_file_refused session list input k.end h (IsRefused-reading input k.session k.list k.end k.reading))
 gives_back session list input file both ending h a (inr (inr k)) =
     inr (ap (λ (x : Ending). x.status) k.ending_is, λ few. no_stop input session list ending h few (inr k))
 
 -- where both files aren't asked for, what isn't done writes nothing
-NoOutput-answer : (others : List Packet) (answer : Answer)
-    → ((answer_ending false others answer).status ≡ statuses.Done) ⊎ ((answer_ending false others answer).output ≡ [])
-NoOutput-answer others (File f) = inl refl
-NoOutput-answer others Inconsistent = inr refl
-NoOutput-answer others (NeedMore s first second) = inr refl
+NoOutput-answer : (session : SessionData) (others : List Packet) (inactive : ℕ) (answer : Answer)
+    → ((answer_ending false session others inactive answer).status ≡ statuses.Done)
+    ⊎ ((answer_ending false session others inactive answer).output ≡ [])
+NoOutput-answer session others inactive (File f) = inl refl
+NoOutput-answer session others inactive Inconsistent = inr refl
+NoOutput-answer session others inactive (NeedMore s first second) = inr refl
 
 pub done_or_nothing : (input : List ℕ) (ending : Ending) → IsSinkEnding false input ending
     → (ending.status ≡ statuses.Done) ⊎ (ending.output ≡ [])
 done_or_nothing input ending (inl k) =
-    subst (λ (x : Ending). (x.status ≡ statuses.Done) ⊎ (x.output ≡ [])) (sym k.ending_is) (NoOutput-answer (packets_of k.list) k.answer)
+    subst (λ (x : Ending). (x.status ≡ statuses.Done) ⊎ (x.output ≡ [])) (sym k.ending_is) (NoOutput-answer k.session (packets_of k.list) (length k.inactive) k.answer)
 done_or_nothing input ending (inr (inl k)) = inr (ap (λ (x : Ending). x.output) k.ending_is)
 done_or_nothing input ending (inr (inr k)) = inr (ap (λ (x : Ending). x.output) k.ending_is)
 

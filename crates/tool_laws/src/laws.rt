@@ -23,8 +23,8 @@ ghost use Rattle.tool_stream.specs.Relay.{relay_promise};
 ghost use Rattle.tool_stream.specs.Show.{show_promise};
 ghost use Rattle.tool_laws.specs.GivesBack.{GivesBack};
 
-/// A command has one ending on an input, but for `sink` with need-more: there status, notes line and how much is read are
-/// one, and the two agreeing files that it writes where both are asked for are free.
+/// A command has one ending on an input, but for `sink` with need-more: there status, notes line, how much is read and
+/// the bound on the work are one, and the two agreeing files that it writes where both are asked for are free.
 pub fn one_ending()
     ensures nothing { (end : Ending) (input : List ℕ) (ending other : Ending)
         → (reads_nothing end).ends input ending → (reads_nothing end).ends input other → ending ≡ other }
@@ -33,7 +33,7 @@ pub fn one_ending()
     ensures sink { (both : Bool) (input : List ℕ) (ending other : Ending)
         → (sink_promise both).ends input ending → (sink_promise both).ends input other
         → (ending.status ≡ other.status) × (ending.line ≡ other.line) × (ending.reach ≡ other.reach)
-        × ((ending.output ≡ other.output) ⊎ (ending.status ≡ statuses.NeedMore)) }
+        × (ending.work ≡ other.work) × ((ending.output ≡ other.output) ⊎ (ending.status ≡ statuses.NeedMore)) }
     ensures check { (input : List ℕ) (ending other : Ending)
         → check_promise.ends input ending → check_promise.ends input other → ending ≡ other }
     ensures show { (input : List ℕ) (ending other : Ending)
