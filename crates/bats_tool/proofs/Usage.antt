@@ -11,8 +11,8 @@ use Rattle.tool_run.specs.declared.stop.Stop.{Stop}
 use Rattle.tool_run.specs.declared.stop.Stop.TheVariants as stops
 use Rattle.tool_run.specs.Streams.{Ends}
 use Rattle.tool_run.specs.Promise.{reads_nothing}
-use Rattle.tool_run.specs.Attempt.{Attempts, IsOfEnding}
-use Rattle.tool_run.proofs.Attempts.{Attempts-exit}
+use Rattle.tool_run.specs.Attempt.{AttemptsUncounted, IsOfEnding}
+use Rattle.tool_run.proofs.Attempts.{AttemptsUncounted-exit}
 use Rattle.bats_tool.specs.Promises.{usage_ending}
 
 -- nothing was read
@@ -20,8 +20,8 @@ none_read : (x : Ends) → ReadsAtMost x.input.left x.input.left 0
 none_read x = record { bytes = []; read = IsRead-nothing x.input.left; within = omega arith }
 
 pub Attempts-usage : (x : Ends) (finish : Finish) → finish.status ≡ statuses.Usage → string_bytes finish.line ≡ usage_ending.line
-    → Attempts (reads_nothing usage_ending) x x (Ok finish)
-Attempts-usage x finish status line = record {
+    → AttemptsUncounted (reads_nothing usage_ending) x x (Ok finish)
+Attempts-usage x finish status line = λ c d. record {
   input = told_or x.input.left [];
   told = IsTold-told_or x.input.left [];
   read = none_read x;
@@ -32,6 +32,7 @@ Attempts-usage x finish status line = record {
     of_ending = subst IsOfEnding (sym status) tt;
     line_is = line;
     read = refl;
+    worked = tt;
     input_fault = refl;
     output = sym (appended-nil x.output.written);
     output_fault = refl;
@@ -39,9 +40,9 @@ Attempts-usage x finish status line = record {
 }
 
 -- memory ran out at the notes line
-pub Attempts-no_line : (x : Ends) (r : Result Finish Stop) → IsErrAnd r (λ y. y ≡ stops.Memory) → Attempts (reads_nothing usage_ending) x x r
+pub Attempts-no_line : (x : Ends) (r : Result Finish Stop) → IsErrAnd r (λ y. y ≡ stops.Memory) → AttemptsUncounted (reads_nothing usage_ending) x x r
 Attempts-no_line x r is =
-    Attempts-exit (reads_nothing usage_ending) x x stops.Memory r is (record {
+    AttemptsUncounted-exit (reads_nothing usage_ending) x x stops.Memory r is (λ c d. record {
       input = told_or x.input.left [];
       told = IsTold-told_or x.input.left [];
       read = none_read x;

@@ -18,6 +18,7 @@ use std::rt::Env;
 use std::sync::ledger::{Blank, Ledger};
 use std::thread::Threads;
 use std::{env, io};
+use tool_records::Counters;
 use tool_run::Status;
 
 // Bytes of the buffer for the standard input.
@@ -31,28 +32,21 @@ fn run_counted<R: Threads + Sync, S: Source, O: Sink, N: Sink, C: Ledger, L: Led
     input: &mut S,
     output: &mut O,
     notes: &mut N,
-    counters: (Blank, Blank),
+    blanks: (Blank, Blank),
 ) -> Status
-    requires coef_name { counters.0.name ≡ C.name }
-    requires coef_parts { counters.0.parts ≡ C.parts }
-    requires coef_some { 0 < counters.0.parts }
-    requires name { counters.1.name ≡ L.name }
-    requires parts { counters.1.parts ≡ L.parts }
-    requires some { 0 < counters.1.parts }
+    requires coef_name { blanks.0.name ≡ C.name }
+    requires coef_parts { blanks.0.parts ≡ C.parts }
+    requires coef_some { 0 < blanks.0.parts }
+    requires name { blanks.1.name ≡ L.name }
+    requires parts { blanks.1.parts ≡ L.parts }
+    requires some { 0 < blanks.1.parts }
 {
-    let (coef_blank, blank) = counters;
-    let mut coef_steps = Steps::<C>::new(coef_blank);
-    let mut steps = Steps::<L>::new(blank);
-    run(
-        rt,
-        alloc,
-        words,
-        input,
-        output,
-        notes,
-        &mut coef_steps,
-        &mut steps,
-    )
+    let (coef_blank, blank) = blanks;
+    let mut counters = Counters {
+        coef_steps: Steps::<C>::new(coef_blank),
+        steps: Steps::<L>::new(blank),
+    };
+    run(rt, alloc, words, input, output, notes, &mut counters)
 }
 
 // Runs the program over these streams.
@@ -64,8 +58,8 @@ fn run_over<R: Threads + Sync, S: Source, O: Sink, N: Sink>(
     output: &mut O,
     notes: &mut N,
 ) -> Status {
-    let counters = (Blank::new(1), Blank::new(1));
-    run_counted::<R, S, O, N, Brand, Brand>(rt, alloc, words, input, output, notes, counters)
+    let blanks = (Blank::new(1), Blank::new(1));
+    run_counted::<R, S, O, N, Brand, Brand>(rt, alloc, words, input, output, notes, blanks)
 }
 
 // The words after the program's name. Words that are no text are no command, as are no words.

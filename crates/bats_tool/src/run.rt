@@ -1,5 +1,5 @@
 ghost use Rattle.std.specs.Prelude.{map, string_bytes};
-ghost use Rattle.tool_run.specs.Attempt.{Attempts};
+ghost use Rattle.tool_run.specs.Attempt.{Attempts, AttemptsUncounted};
 ghost use Rattle.tool_run.specs.Promise.{reads_nothing};
 ghost use Rattle.tool_run.specs.Run.{RunsBy};
 ghost use Rattle.tool_run.specs.Streams.{Ends};
@@ -8,10 +8,10 @@ ghost use Rattle.bats_tool.specs.Promises.{promise_of, usage_ending};
 
 use bats_io::{Sink, Source};
 use bats_words::{Command, SourceOptions, parse};
-use gf_rows::Steps;
 use std::alloc::Global;
 use std::sync::ledger::Ledger;
 use std::thread::Threads;
+use tool_records::Counters;
 use tool_run::{Finish, Status, Stop, conclude, refuse};
 use tool_sink::{check, sink};
 use tool_source::source;
@@ -19,7 +19,7 @@ use tool_stream::{relay, show};
 
 // How words end that are no command: nothing is read or written.
 fn usage(alloc: Global) -> Result<Finish, Stop>
-    ensures { (ends : Ends) → Attempts (reads_nothing usage_ending) ends ends result }
+    ensures { (ends : Ends) → AttemptsUncounted (reads_nothing usage_ending) ends ends result }
 {
     Ok(refuse(alloc, Status::Usage, "bats: usage\n")?)
 }
@@ -31,12 +31,13 @@ fn attempt<R: Threads + Sync, S: Source, O: Sink, C: Ledger, L: Ledger>(
     words: &Vec<String>,
     input: &mut S,
     output: &mut O,
-    coef_steps: &mut Steps<C>,
-    steps: &mut Steps<L>,
+    counters: &mut Counters<C, L>,
 ) -> Result<Finish, Stop>
     ensures { Attempts (promise_of (command_of (map string_bytes words.now.items)))
         (record { input = S.state input.old; output = O.state output.old })
         (record { input = S.state input.new; output = O.state output.new })
+        (record { coefficients = counters.old.coef_steps; payloads = counters.old.steps })
+        (record { coefficients = counters.new.coef_steps; payloads = counters.new.steps })
         result }
 {
     match parse(words) {
@@ -62,15 +63,13 @@ fn attempt<R: Threads + Sync, S: Source, O: Sink, C: Ledger, L: Ledger>(
             };
             source(alloc, &options, input, output)
         }
-        Some(Command::Relay { seed, extra, count }) => relay(
-            alloc, seed, extra, count, input, output, coef_steps, steps,
-        ),
-        Some(Command::Sink { workers, both }) => sink(
-            rt, alloc, workers, both, input, output, coef_steps, steps,
-        ),
-        Some(Command::Check { workers }) => {
-            check(rt, alloc, workers, input, output, coef_steps, steps)
+        Some(Command::Relay { seed, extra, count }) => {
+            relay(alloc, seed, extra, count, input, output, counters)
         }
+        Some(Command::Sink { workers, both }) => {
+            sink(rt, alloc, workers, both, input, output, counters)
+        }
+        Some(Command::Check { workers }) => check(rt, alloc, workers, input, output, counters),
         Some(Command::Show) => show(alloc, input, output),
         None => usage(alloc),
     }
@@ -84,24 +83,23 @@ pub fn run<R: Threads + Sync, S: Source, O: Sink, N: Sink, C: Ledger, L: Ledger>
     input: &mut S,
     output: &mut O,
     notes: &mut N,
-    coef_steps: &mut Steps<C>,
-    steps: &mut Steps<L>,
+    counters: &mut Counters<C, L>,
 ) -> Status
     ensures { RunsBy (promise_of (command_of (map string_bytes words.now.items)))
         (record {
           input = S.state input.old;
           output = O.state output.old;
           notes = N.state notes.old;
-          counters = record { coefficients = coef_steps.old; payloads = steps.old };
+          counters = record { coefficients = counters.old.coef_steps; payloads = counters.old.steps };
         })
         (record {
           input = S.state input.new;
           output = O.state output.new;
           notes = N.state notes.new;
-          counters = record { coefficients = coef_steps.new; payloads = steps.new };
+          counters = record { coefficients = counters.new.coef_steps; payloads = counters.new.steps };
         })
         result }
 {
-    let ending = attempt(rt, alloc, words, input, output, coef_steps, steps);
+    let ending = attempt(rt, alloc, words, input, output, counters);
     conclude(output, notes, ending)
 }
