@@ -1,91 +1,73 @@
--- What elimination of the kept packets' equations says of the symbols' values.
-use Rattle.std.proofs.Common.{ℕ, suc, ◌≡◌, ◌≢◌, ◌<◌, ◌≤◌, ◌+◌, ◌*◌, ◌∙◌, ◌⊎◌, inl, inr, List, [], ◌++◌, length, get_or, map, sym, ap, subst, arith, Vec, Global}
-use Rattle.std.specs.Prelude.{All, AllPairs, Contains}
+-- What the elimination of kept packets says of the symbols' values: by peeling, and the reduction of what is left over.
+use Rattle.std.proofs.Common.{ℕ, suc, ◌≡◌, ◌<◌, ◌≤◌, ◌+◌, ◌*◌, ◌∙◌, inl, inr, List, ◌++◌, length, get_or, map, sym, ap, subst, arith, Vec, Global}
+use Rattle.std.specs.Prelude.{All, Contains}
 use Rattle.std.specs.List.{range_with_len}
-use Rattle.std.proofs.lemmas.List.{length-map, get_or-map, get_or_default, ext_get_or}
-use Rattle.std.proofs.lemmas.List.Concat.{length-flat_map}
-use Rattle.std.proofs.lemmas.List.Elements.{All-nil, All-map, All-contains, Contains-get_or}
-use Rattle.std.proofs.lemmas.List.FromFn.{length-range_with_len, get_or-range_with_len}
+use Rattle.std.proofs.Math.Nat.{mul-add}
+use Rattle.std.proofs.lemmas.Nat.{mul-le}
+use Rattle.std.proofs.lemmas.List.{length-map, get_or_default}
+use Rattle.std.proofs.lemmas.List.Elements.{All-append, All-map, All-contains, Contains-get_or}
+use Rattle.std.proofs.lemmas.List.FromFn.{length-map-range_with_len, get_or-map-range_with_len}
 use Rattle.gf_core.specs.Bytes.{AreBytes}
-use Rattle.gf_core.specs.Field.{gf_add, gf_mul}
-use Rattle.gf_core.proofs.AddLemmas.{gf_add-lt}
-use Rattle.gf_core.proofs.SumLemmas.{gf_sum-lt, gf_sum-congruence}
-use Rattle.gf_core.proofs.ProductLemmas.{gf_mul-lt}
+use Rattle.gf_core.specs.Field.{gf_add, gf_mul, gf_sum}
+use Rattle.gf_core.proofs.AddLemmas.{gf_add-lt, zero-gf_add}
+use Rattle.gf_core.proofs.SumLemmas.{gf_sum-lt, gf_sum-congruence, gf_sum-zeros}
+use Rattle.gf_core.proofs.ProductLemmas.{gf_mul-lt, zero-gf_mul}
 use Rattle.gf_core.proofs.RowLemmas.{byte_at}
 use Rattle.gf_rows.specs.declared.operation.Op.{Op}
-use Rattle.gf_rows.specs.Matrix.{Grid, matrix_entry}
-use Rattle.gf_rows.specs.Operation.{FitsRows}
+use Rattle.gf_rows.specs.Matrix.{matrix_entry}
+use Rattle.gf_rows.specs.Operation.{IsRowOperation, HasByteFactor, FitsRows}
 use Rattle.gf_rows.specs.Plan.{IsPlan, plan_on_column}
 use Rattle.gf_rows.specs.Performed.{Performed}
-use Rattle.gf_rows.specs.Equations.{AreValues, row_value, Solves}
-use Rattle.gf_rows.proofs.PlanLemmas.{plan_on_column-nil, plan_on_column-lt}
+use Rattle.gf_rows.specs.Equations.{AreValues, row_value, row_result, Solves}
+use Rattle.gf_rows.proofs.PlanLemmas.{plan_on_column-lt}
 use Rattle.gf_rows.proofs.SolutionLemmas.{length-performed, IsMatrix-performed}
-use Rattle.bats_model.specs.Session.{SessionData, symbols_of}
+use Rattle.bats_model.specs.Session.{SessionData, IsPadded, symbols_of}
 use Rattle.bats_model.specs.Values.{packet_value, AreByteValues, Satisfies}
+use Rattle.bats_model.specs.Peeling.{IsInactiveList}
 use Rattle.bats_model.specs.declared.packet.Packet.{Packet}
 use Rattle.bats_model.proofs.SymbolValues.{combined_value-lt}
-use Rattle.bats_batch.specs.Held.{HeldBatch, row_count, kept_packets}
 use Rattle.bats_dense.specs.declared.dense.Dense.{Dense}
-use Rattle.bats_dense.specs.Reduced.{AreTargets, IsReduced}
+use Rattle.bats_dense.specs.Reduced.{IsReduced}
 use Rattle.bats_dense.specs.Kept.{KeepsSolutions}
 use Rattle.bats_dense.specs.Completed.{free_value, IsCompleted}
-use Rattle.bats_dense.proofs.Completing.{Solves-completed}
+use Rattle.bats_dense.proofs.Completing.{gf_sum-split, Solves-completed}
 use Rattle.bats_dense.proofs.ResultLemmas.{ArePivots-last}
+use Rattle.bats_peel.specs.declared.peeled.Place.{Place as Left}
+use Rattle.bats_peel.specs.declared.peeled.Place.TheVariants.{Row as OwnRow, Column}
+use Rattle.bats_peel.specs.declared.peeled.Peeled.{Peeled}
+use Rattle.bats_peel.specs.Peeled.{column_values, GiveSymbols, IsPeeled}
+use Rattle.bats_peel.specs.Peeled.{place_of as place_left}
 use Rattle.bats_decode.specs.declared.elimination.Place.{Place}
 use Rattle.bats_decode.specs.declared.elimination.Place.TheVariants.{Row, Free}
 use Rattle.bats_decode.specs.declared.elimination.Elimination.{Elimination}
-use Rattle.bats_decode.specs.steps.Equations.{AreEquations}
+use Rattle.bats_decode.specs.steps.Left.{AreOwnRows, place_after}
 use Rattle.bats_decode.specs.steps.Eliminated.{ArePlaces, place_of, IsPlaceWithin, IsShaped, free_entry, free_sum, value_at, values_from, AreZeroAfter, ComesFrom, IsEliminated}
+use Rattle.bats_decode.proofs.LeftLemmas.{left_kind, no_row_at_column, row-within, at-column, LastIs, last-column}
 use Rattle.bats_decode.proofs.PlaceLemmas.{pivot-apart}
 
--- ---- the rows are all equations
+-- ---- the operations
 
-pub row_count-kept : (batches : List HeldBatch) → row_count batches ≡ length (kept_packets batches)
-unfolding kept_packets
-row_count-kept batches = sym (length-flat_map (λ (batch : HeldBatch). batch.kept) batches)
+-- at most as many for each row as the largest degree, and as there are columns
+pub plan-within : (new old before after left others cols rows degree : ℕ) → new + before ≡ old + after
+    → new ≤ old + (left + others) * cols → left + others ≤ rows → before ≤ rows * degree → after ≤ rows * (degree + cols)
+plan-within new old before after left others cols rows degree counted steps few peeled =
+    omega (arith, counted, steps, peeled, mul-le (left + others) cols rows cols few (omega arith), mul-add rows degree cols)
 
--- each number below the count is one of the equations, and there are no others
-has_row : (count : ℕ) (eqs : List ℕ) (r : ℕ) → eqs ≡ range_with_len 0 count → r < count → Contains eqs r
-has_row count eqs r is h =
-    let at : get_or (range_with_len 0 count) r r ≡ 0 + r = get_or-range_with_len 0 count r r h in
-    let has : Contains (range_with_len 0 count) r = (r, omega (arith, length-range_with_len 0 count), omega (arith, at)) in
-    subst (λ (xs : List ℕ). Contains xs r) (sym is) has
-
-rows_within : (count : ℕ) (eqs : List ℕ) → eqs ≡ range_with_len 0 count → All (λ r. r < count) eqs
-rows_within count eqs is =
-    let below : All (λ r. r < count) (range_with_len 0 count) =
-    λ k d h. let long = length-range_with_len 0 count in omega (arith, get_or-range_with_len 0 count k d (omega arith)) in
-    subst (All (λ r. r < count)) (sym is) below
-
-rows_distinct : (count : ℕ) → AllPairs (λ a b. a ≢ b) (range_with_len 0 count)
-rows_distinct count i j d before h e =
-    let long = length-range_with_len 0 count in
-    let first = get_or-range_with_len 0 count i d (omega arith) in
-    let second = get_or-range_with_len 0 count j d (omega arith) in
-    absurd (omega (arith, first, second, e))
-
-pub AreTargets-all : (m : Grid) (count : ℕ) (eqs others : List ℕ) → eqs ≡ range_with_len 0 count → others ≡ [] → length m.rows ≡ count → AreTargets m eqs others
-AreTargets-all m count eqs others is none rows = record {
-  eqs_within = subst (λ (n : ℕ). All (λ r. r < n) eqs) (sym rows) (rows_within count eqs is);
-  others_within = subst (All (λ r. r < length m.rows)) (sym none) (All-nil (λ r. r < length m.rows));
-  distinct = subst (AllPairs (λ a b. a ≢ b)) (sym is) (rows_distinct count);
-  apart = subst (All (λ r. ¬ Contains eqs r)) (sym none) (All-nil (λ r. ¬ Contains eqs r));
+both-plans : (first second : List Op) → IsPlan first → IsPlan second → IsPlan (first ++ second)
+both-plans first second one other = record {
+  rule = All-append IsRowOperation first second one.rule other.rule;
+  bytes = All-append HasByteFactor first second one.bytes other.bytes;
 }
-
--- the bound on the steps, by the sizes
-pub steps-within : (new old cols count symbols : ℕ) (eqs others : List ℕ) → eqs ≡ range_with_len 0 count → others ≡ [] → cols ≡ symbols
-    → new ≤ old + (length eqs + length others) * cols → new ≤ old + count * symbols
-steps-within new old cols count symbols eqs others is none width h =
-    let eqs_count : length eqs ≡ count = ap (λ (xs : List ℕ). length xs) is ∙ length-range_with_len 0 count in
-    let no_others : length others ≡ 0 = ap (λ (xs : List ℕ). length xs) none in
-    let sizes : length eqs + length others ≡ count = omega arith in
-    subst (λ (w : ℕ). new ≤ old + count * w) width (subst (λ (n : ℕ). new ≤ old + n * cols) sizes h)
 
 -- ---- places
 
 abbrev row_of : Place → ℕ
 row_of (Row r) = r
 row_of (Free i) = 0
+
+abbrev column_left : Left → ℕ
+column_left (OwnRow r) = 0
+column_left (Column j) = j
 
 abbrev is_row : Place → ℕ
 is_row (Row r) = 1
@@ -101,9 +83,6 @@ ArePlaces-read count symbols read_rows read_columns read_free rows columns free 
     (subst (λ (xs : List ℕ). ArePlaces count read_rows xs free places) g
     (subst (λ (xs : List ℕ). ArePlaces count read_rows read_columns xs places) h placed)))
 
-no_packet : Packet
-no_packet = record { batch = 0; coefs = []; payload = [] }
-
 -- the elimination that a reduction and the places give
 abbrev pub elimination_of : Dense → Vec Place Global → Elimination
 elimination_of dense places = record {
@@ -114,189 +93,295 @@ elimination_of dense places = record {
   zero_rows = dense.zero_rows;
 }
 
-module _ (session : SessionData) (packets : List Packet) (m : Grid) (dense : Dense) (places : Vec Place Global) (eqs others : List ℕ) (before : List Op)
-    (equations : AreEquations session packets m) (is : eqs ≡ range_with_len 0 (length packets)) (none : before ≡ [])
-    (reduced : IsReduced eqs others dense) (did : Performed eqs m dense.matrix before dense.plan)
-    (keeps : KeepsSolutions eqs m dense.matrix before dense.plan) (fits : All (FitsRows (length dense.matrix.rows)) dense.plan)
-    (placed : ArePlaces (symbols_of session) dense.pivot_rows dense.pivot_columns dense.free places.items) where
+-- ---- what satisfies packets
+
+column_length : (session : SessionData) (packets : List Packet) (column : List ℕ) (x : ℕ → ℕ) → Satisfies session packets column x
+    → length column ≡ length packets
+column_length session packets column x satisfies =
+    ap (λ (xs : List ℕ). length xs) (sym satisfies.values) ∙ length-map packets (λ (packet : Packet). packet_value session packet x)
+
+column_bytes : (session : SessionData) (packets : List Packet) (column : List ℕ) (x : ℕ → ℕ) → Satisfies session packets column x
+    → AreBytes column
+column_bytes session packets column x satisfies =
+    subst AreBytes satisfies.values
+    (All-map (λ byte. byte < 256) (λ (packet : Packet). packet_value session packet x) packets
+    (λ i d h. combined_value-lt session (get_or packets i d).batch (get_or packets i d).coefs x satisfies.bytes))
+
+named : (xs : List ℕ) (s : ℕ) (has : Contains xs s) → get_or xs has.0 0 ≡ s
+named xs s has = get_or_default xs has.0 0 s has.1 ∙ has.2
+
+-- ---- peeled and reduced
+
+module _ (session : SessionData) (received packets : List Packet) (peeled : Peeled) (dense : Dense) (columns : List Place)
+    (places : Vec Place Global) (others : List ℕ)
+    (listed : IsInactiveList session received peeled.inactive) (is : IsPeeled session packets peeled)
+    (own : AreOwnRows (symbols_of session) peeled.places others) (reduced : IsReduced peeled.leftover others dense)
+    (did : Performed peeled.leftover peeled.rows dense.matrix peeled.plan dense.plan)
+    (keeps : KeepsSolutions peeled.leftover peeled.rows dense.matrix peeled.plan dense.plan)
+    (fits : All (FitsRows (length dense.matrix.rows)) dense.plan)
+    (at_columns : ArePlaces (length peeled.columns) dense.pivot_rows dense.pivot_columns dense.free columns)
+    (placed : places.items ≡ map (λ s. place_after columns (place_left peeled.places s)) (range_with_len 0 (symbols_of session))) where
   abbrev eliminated : Elimination
   eliminated = elimination_of dense places
 
-  cols : dense.matrix.cols ≡ symbols_of session
-  cols = did.cols ∙ equations.cols
+  cols : dense.matrix.cols ≡ length peeled.columns
+  cols = did.cols ∙ is.placed.cols
 
   row_total : length dense.matrix.rows ≡ length packets
-  row_total = length-performed did ∙ equations.rows
+  row_total = length-performed did ∙ is.placed.row_count
 
-  row_within : (r : ℕ) → Contains eqs r → r < length packets
-  row_within r has = All-contains (λ k. k < length packets) eqs r (rows_within (length packets) eqs is) has
+  left_within : (r : ℕ) → Contains peeled.leftover r → r < length packets
+  left_within r has = All-contains (λ k. k < length packets) peeled.leftover r is.placed.leftover_within has
+
+  pivot_within : (i : ℕ) → i < length dense.pivot_columns → get_or dense.pivot_columns i 0 < length peeled.columns
+  pivot_within i h = subst (λ (n : ℕ). get_or dense.pivot_columns i 0 < n) cols (reduced.columns.pivots_within i 0 h)
+
+  free_within : (i : ℕ) → i < length dense.free → get_or dense.free i 0 < length peeled.columns
+  free_within i h = subst (λ (n : ℕ). get_or dense.free i 0 < n) cols (reduced.columns.free_within i 0 h)
+
+  pivot_row_within : (i : ℕ) → i < length dense.pivot_columns → get_or dense.pivot_rows i 0 < length packets
+  pivot_row_within i h = left_within (get_or dense.pivot_rows i 0) (reduced.from_eqs i 0 (omega (arith, h, reduced.pivots.sizes)))
 
   -- ---- the places of the symbols
 
-  at_symbol : (s : ℕ) → s < symbols_of session → Contains dense.pivot_columns s ⊎ Contains dense.free s
-  at_symbol s h = reduced.columns.each s (subst (λ (n : ℕ). s < n) (sym cols) h)
+  place_at : (s : ℕ) → s < symbols_of session → place_of eliminated s ≡ place_after columns (place_left peeled.places s)
+  place_at s h =
+      ap (λ (ps : List Place). get_or ps s (Row 0)) placed ∙
+      get_or-map-range_with_len (λ k. place_after columns (place_left peeled.places k)) 0 (symbols_of session) s s (Row 0) h (omega arith)
 
-  named : (xs : List ℕ) (s : ℕ) (has : Contains xs s) → get_or xs has.0 0 ≡ s
-  named xs s has = get_or_default xs has.0 0 s has.1 ∙ has.2
+  place_at_own : (s r : ℕ) → s < symbols_of session → place_left peeled.places s ≡ OwnRow r → place_of eliminated s ≡ Row r
+  place_at_own s r h at = place_at s h ∙ ap (place_after columns) at
 
-  place_at_pivot : (s : ℕ) (has : Contains dense.pivot_columns s) → place_of eliminated s ≡ Row (get_or dense.pivot_rows has.0 0)
-  place_at_pivot s has = ap (place_of eliminated) (sym (named dense.pivot_columns s has)) ∙ placed.pivots has.0 has.1
+  place_at_column : (s j : ℕ) → s < symbols_of session → place_left peeled.places s ≡ Column j
+      → place_of eliminated s ≡ get_or columns j (Row 0)
+  place_at_column s j h at = place_at s h ∙ ap (place_after columns) at
 
-  place_at_free : (s : ℕ) (has : Contains dense.free s) → place_of eliminated s ≡ Free has.0
-  place_at_free s has = ap (place_of eliminated) (sym (named dense.free s has)) ∙ placed.columns has.0 has.1
+  -- the place of a column's symbol
+  place_of_column : (j : ℕ) → j < length peeled.columns → place_of eliminated (get_or peeled.columns j 0) ≡ get_or columns j (Row 0)
+  place_of_column j h = place_at_column (get_or peeled.columns j 0) j (is.placed.columns_below j 0 h) (is.placed.at_columns j h)
 
-  pivot_row_within : (i : ℕ) → i < length dense.pivot_columns → get_or dense.pivot_rows i 0 < length packets
-  pivot_row_within i h = row_within (get_or dense.pivot_rows i 0) (reduced.from_eqs i 0 (omega (arith, h, reduced.pivots.sizes)))
-
-  free_symbol : (i : ℕ) → i < length dense.free → get_or dense.free i 0 < symbols_of session
-  free_symbol i h = subst (λ (n : ℕ). get_or dense.free i 0 < n) cols (reduced.columns.free_within i 0 h)
+  -- what holds of each symbol and its place: of one that has its own row, of one at a pivot column, and of a free one
+  by_kind : (P : ℕ → Place → Type 0)
+      → ((s r : ℕ) → s < symbols_of session → place_left peeled.places s ≡ OwnRow r → P s (Row r))
+      → ((s i : ℕ) → i < length dense.pivot_columns → get_or peeled.columns (get_or dense.pivot_columns i 0) 0 ≡ s
+      → P s (Row (get_or dense.pivot_rows i 0)))
+      → ((s i : ℕ) → i < length dense.free → get_or peeled.columns (get_or dense.free i 0) 0 ≡ s → P s (Free i))
+      → (s : ℕ) → s < symbols_of session → P s (place_of eliminated s)
+  by_kind P of_own of_pivot of_free s h = elim (left_kind (place_left peeled.places s)) [
+    | inl left ↦ subst (P s) (sym (place_at_own s left.0 h left.1)) (of_own s left.0 h left.1)
+    | inr left ↦
+        let j : ℕ = left.0 in
+        let column = at-column session (length packets) peeled is.placed s j h left.1 in
+        elim (reduced.columns.each j (subst (λ (n : ℕ). j < n) (sym cols) column.0)) [
+          | inl has ↦
+              let name : get_or dense.pivot_columns has.0 0 ≡ j = named dense.pivot_columns j has in
+              let place : place_of eliminated s ≡ Row (get_or dense.pivot_rows has.0 0) =
+              place_at_column s j h left.1 ∙ (ap (λ (k : ℕ). get_or columns k (Row 0)) (sym name) ∙ at_columns.pivots has.0 has.1) in
+              subst (P s) (sym place)
+              (of_pivot s has.0 has.1 (ap (λ (k : ℕ). get_or peeled.columns k 0) name ∙ column.1))
+          | inr has ↦
+              let name : get_or dense.free has.0 0 ≡ j = named dense.free j has in
+              let place : place_of eliminated s ≡ Free has.0 =
+              place_at_column s j h left.1 ∙ (ap (λ (k : ℕ). get_or columns k (Row 0)) (sym name) ∙ at_columns.columns has.0 has.1) in
+              subst (P s) (sym place)
+              (of_free s has.0 has.1 (ap (λ (k : ℕ). get_or peeled.columns k 0) name ∙ column.1))
+        ]
+  ]
 
   shape : IsShaped session (length packets) eliminated
   shape = record {
-    matrix = IsMatrix-performed did equations.matrix;
+    matrix = IsMatrix-performed did is.placed.matrix;
     row_count = row_total;
-    places = placed.count;
-    places_within = λ s h. elim (at_symbol s h) [
-      | inl has ↦ subst (IsPlaceWithin (length packets) (length dense.free)) (sym (place_at_pivot s has)) (pivot_row_within has.0 has.1)
-      | inr has ↦ subst (IsPlaceWithin (length packets) (length dense.free)) (sym (place_at_free s has)) has.1
-    ];
+    places =
+        ap (λ (ps : List Place). length ps) placed ∙
+        length-map-range_with_len (λ s. place_after columns (place_left peeled.places s)) 0 (symbols_of session);
+    places_within = by_kind (λ s. IsPlaceWithin (length packets) (length dense.free))
+        (λ s r h at. row-within session (length packets) peeled is.placed s r h at)
+        (λ s i h e. pivot_row_within i h)
+        (λ s i h e. h);
     free_within = reduced.columns.free_within;
     zero_within = λ k d h.
         let r : ℕ = get_or dense.zero_rows k d in
-        row_within r ((reduced.zero_rows.are r).0 (Contains-get_or dense.zero_rows k d h)).0;
+        left_within r ((reduced.zero_rows.are r).0 (Contains-get_or dense.zero_rows k d h)).0;
     fits = subst (λ (n : ℕ). All (FitsRows n) dense.plan) row_total fits;
-    plan = subst IsPlan (sym (did.plan ∙ ap (λ (ops : List Op). ops ++ did.ops) none)) did.is;
+    plan = subst IsPlan (sym did.plan) (both-plans peeled.plan did.ops is.placed.plan did.is);
   }
 
-  -- ---- the packets as equations
+  -- ---- the rows that symbols have of their own
 
-  before_is : (column : List ℕ) → plan_on_column before column ≡ column
-  before_is column = ap (λ (ops : List Op). plan_on_column ops column) none ∙ plan_on_column-nil column
+  -- such a row is 0 at the pivot columns
+  cleared_value : (y : ℕ → ℕ) (r : ℕ) → Contains others r → row_value dense.matrix y r ≡ free_value dense y r
+  cleared_value y r has =
+      let product : ℕ → ℕ = λ j. gf_mul (matrix_entry dense.matrix r j) (y j) in
+      let at_pivots : gf_sum (length dense.pivot_columns) (λ i. product (get_or dense.pivot_columns i 0)) ≡ 0 =
+      gf_sum-zeros (length dense.pivot_columns) (λ i. product (get_or dense.pivot_columns i 0))
+      (λ i h.
+      ap (λ entry. gf_mul entry (y (get_or dense.pivot_columns i 0)))
+      (All-contains (λ k. All (λ j. matrix_entry dense.matrix k j ≡ 0) dense.pivot_columns) others r reduced.cleared has i 0 h) ∙
+      zero-gf_mul (y (get_or dense.pivot_columns i 0))) in
+      gf_sum-split dense.matrix.cols dense.pivot_columns dense.free reduced.columns product ∙
+      (ap (λ (x : ℕ). gf_add x (free_value dense y r)) at_pivots ∙ zero-gf_add (free_value dense y r))
 
-  solved : (column : List ℕ) (x : ℕ → ℕ) → Satisfies session packets column x → Solves m column eqs x
-  solved column x satisfies = record {
-    each = λ k d h.
-        let r : ℕ = get_or eqs k d in
-        let within : r < length packets = row_within r (Contains-get_or eqs k d h) in
-        ap (λ (xs : List ℕ). get_or xs r 0) (sym satisfies.values) ∙
-        (get_or-map (λ (packet : Packet). packet_value session packet x) packets r no_packet 0 within ∙
-        sym (equations.values x satisfies.bytes r no_packet within));
-  }
+  -- what it gives after the reduction
+  own_result : (after : List ℕ) (y : ℕ → ℕ) (s r : ℕ) → s < symbols_of session → place_left peeled.places s ≡ OwnRow r
+      → row_result dense.matrix after y r ≡ gf_add (get_or after r 0) (free_value dense y r)
+  own_result after y s r h at = ap (gf_add (get_or after r 0)) (cleared_value y r (own.each s r h at))
 
-  satisfied : (column : List ℕ) (x : ℕ → ℕ) → length column ≡ length packets → AreByteValues session x → Solves m column eqs x
-      → Satisfies session packets column x
-  satisfied column x long bytes solves = record {
-    bytes = bytes;
-    values =
-        ext_get_or 0 (map (λ (packet : Packet). packet_value session packet x) packets) column
-        (length-map packets (λ (packet : Packet). packet_value session packet x) ∙ sym long)
-        (λ i h.
-        let within : i < length packets = omega (arith, h, length-map packets (λ (packet : Packet). packet_value session packet x)) in
-        get_or-map (λ (packet : Packet). packet_value session packet x) packets i no_packet 0 within ∙
-        (sym (equations.values x bytes i no_packet within) ∙
-        sym (All-contains (λ r. get_or column r 0 ≡ row_value m x r) eqs i solves.each (has_row (length packets) eqs i is within))));
-  }
+  column_values-bytes : (x : ℕ → ℕ) → AreByteValues session x → AreValues peeled.rows.cols (column_values peeled x)
+  column_values-bytes x bytes j h =
+      bytes (get_or peeled.columns j 0) (is.placed.columns_below j 0 (subst (λ (n : ℕ). j < n) is.placed.cols h))
 
-  symbol_values : (x : ℕ → ℕ) → AreByteValues session x → AreValues m.cols x
-  symbol_values x bytes j h = bytes j (subst (λ (n : ℕ). j < n) equations.cols h)
-
-  column_length : (column : List ℕ) (x : ℕ → ℕ) → Satisfies session packets column x → length column ≡ length packets
-  column_length column x satisfies =
-      ap (λ (xs : List ℕ). length xs) (sym satisfies.values) ∙ length-map packets (λ (packet : Packet). packet_value session packet x)
-
-  column_bytes : (column : List ℕ) (x : ℕ → ℕ) → Satisfies session packets column x → AreBytes column
-  column_bytes column x satisfies =
-      subst AreBytes satisfies.values
-      (All-map (λ byte. byte < 256) (λ (packet : Packet). packet_value session packet x) packets
-      (λ i d h. combined_value-lt session (get_or packets i d).batch (get_or packets i d).coefs x satisfies.bytes))
-
-  -- ---- satisfied, and completed
-
-  completed : (column : List ℕ) (x : ℕ → ℕ) → Satisfies session packets column x → IsCompleted dense (plan_on_column dense.plan column) x
-  completed column x satisfies =
-      (Solves-completed eqs others (plan_on_column dense.plan column) dense x reduced).0
-      ((keeps.solutions column x (column_length column x satisfies ∙ sym equations.rows) (column_bytes column x satisfies) (symbol_values x satisfies.bytes)).0
-      (subst (λ (ys : List ℕ). Solves m ys eqs x) (sym (before_is column)) (solved column x satisfies)))
-
-  from_completed : (column : List ℕ) (x : ℕ → ℕ) → length column ≡ length packets → AreBytes column → AreByteValues session x
-      → IsCompleted dense (plan_on_column dense.plan column) x → Satisfies session packets column x
-  from_completed column x long column_bytes bytes is_completed =
-      satisfied column x long bytes
-      (subst (λ (ys : List ℕ). Solves m ys eqs x) (before_is column)
-      ((keeps.solutions column x (long ∙ sym equations.rows) column_bytes (symbol_values x bytes)).1
-      ((Solves-completed eqs others (plan_on_column dense.plan column) dense x reduced).1 is_completed)))
+  long_as_rows : (column : List ℕ) → length column ≡ length packets → length column ≡ length peeled.rows.rows
+  long_as_rows column long = long ∙ sym is.placed.row_count
 
   -- ---- any values of the free symbols
 
-  module _ (column : List ℕ) (v : ℕ → ℕ) (bytes : AreBytes column) (below : AreValues (length dense.free) v) where
+  module _ (column : List ℕ) (v : ℕ → ℕ) (long : length column ≡ length packets) (bytes : AreBytes column)
+      (below : AreValues (length dense.free) v) where
     abbrev after : List ℕ
     after = plan_on_column dense.plan column
 
     abbrev made : ℕ → ℕ
     made = values_from eliminated after v
 
-    made_bytes : AreByteValues session made
-    made_bytes s h = elim (at_symbol s h) [
-      | inl has ↦
-          let r : ℕ = get_or dense.pivot_rows has.0 0 in
-          subst (λ place. value_at eliminated after v place < 256) (sym (place_at_pivot s has))
-          (gf_add-lt (get_or after r 0) (free_sum eliminated r v) (byte_at after r (plan_on_column-lt dense.plan column bytes))
-          (gf_sum-lt (length dense.free) (λ i. gf_mul (free_entry eliminated r i) (v i)) (λ i w. gf_mul-lt (free_entry eliminated r i) (v i) (below i w))))
-      | inr has ↦ subst (λ place. value_at eliminated after v place < 256) (sym (place_at_free s has)) (below has.0 has.1)
-    ]
+    abbrev made_column : ℕ → ℕ
+    made_column = column_values peeled made
 
-    made_sum : (r : ℕ) → free_sum eliminated r v ≡ free_value dense made r
+    row_sum_bytes : (r : ℕ) → gf_add (get_or after r 0) (free_sum eliminated r v) < 256
+    row_sum_bytes r =
+        gf_add-lt (get_or after r 0) (free_sum eliminated r v) (byte_at after r (plan_on_column-lt dense.plan column bytes))
+        (gf_sum-lt (length dense.free) (λ i. gf_mul (free_entry eliminated r i) (v i))
+        (λ i w. gf_mul-lt (free_entry eliminated r i) (v i) (below i w)))
+
+    made_bytes : AreByteValues session made
+    made_bytes = by_kind (λ s place. value_at eliminated after v place < 256)
+        (λ s r h at. row_sum_bytes r)
+        (λ s i h e. row_sum_bytes (get_or dense.pivot_rows i 0))
+        (λ s i h e. below i h)
+
+    made_at_pivot : (i : ℕ) → i < length dense.pivot_columns → made_column (get_or dense.pivot_columns i 0)
+        ≡ gf_add (get_or after (get_or dense.pivot_rows i 0) 0) (free_sum eliminated (get_or dense.pivot_rows i 0) v)
+    made_at_pivot i h =
+        ap (value_at eliminated after v)
+        (place_of_column (get_or dense.pivot_columns i 0) (pivot_within i h) ∙ at_columns.pivots i h)
+
+    made_at_free : (i : ℕ) → i < length dense.free → made_column (get_or dense.free i 0) ≡ v i
+    made_at_free i h =
+        ap (value_at eliminated after v) (place_of_column (get_or dense.free i 0) (free_within i h) ∙ at_columns.columns i h)
+
+    made_sum : (r : ℕ) → free_sum eliminated r v ≡ free_value dense made_column r
     made_sum r =
         gf_sum-congruence (length dense.free) (λ i. gf_mul (free_entry eliminated r i) (v i))
-        (λ i. gf_mul (matrix_entry dense.matrix r (get_or dense.free i 0)) (made (get_or dense.free i 0)))
-        (λ i h. ap (gf_mul (free_entry eliminated r i)) (sym (ap (value_at eliminated after v) (placed.columns i h))))
+        (λ i. gf_mul (matrix_entry dense.matrix r (get_or dense.free i 0)) (made_column (get_or dense.free i 0)))
+        (λ i h. ap (gf_mul (free_entry eliminated r i)) (sym (made_at_free i h)))
 
-    made_completed : AreZeroAfter eliminated after → IsCompleted dense after made
+    made_completed : AreZeroAfter eliminated after → IsCompleted dense after made_column
     made_completed zeros = record {
       zero_rows = zeros;
       pivots = λ i h.
-          let r : ℕ = get_or dense.pivot_rows i 0 in
-          ap (value_at eliminated after v) (placed.pivots i h) ∙ ap (gf_add (get_or after r 0)) (made_sum r);
+          made_at_pivot i h ∙
+          ap (gf_add (get_or after (get_or dense.pivot_rows i 0) 0)) (made_sum (get_or dense.pivot_rows i 0));
     }
+
+    made_solves : AreZeroAfter eliminated after → Solves peeled.rows (plan_on_column peeled.plan column) peeled.leftover made_column
+    made_solves zeros =
+        (keeps.solutions column made_column (long_as_rows column long) bytes (column_values-bytes made made_bytes)).1
+        ((Solves-completed peeled.leftover others after dense made_column reduced).1 (made_completed zeros))
+
+    made_gives : AreZeroAfter eliminated after → GiveSymbols session peeled (plan_on_column peeled.plan column) made
+    made_gives zeros s r h at =
+        ap (value_at eliminated after v) (place_at_own s r h at) ∙
+        (ap (gf_add (get_or after r 0)) (made_sum r) ∙
+        (sym (own_result after made_column s r h at) ∙
+        keeps.results column made_column r (long_as_rows column long) (column_values-bytes made made_bytes) (made_solves zeros)))
+
+    made_satisfies : AreZeroAfter eliminated after → Satisfies session packets column made
+    made_satisfies zeros = (is.solutions column made long bytes made_bytes).1 (made_gives zeros, made_solves zeros)
 
   -- ---- values that satisfy
 
-  came_from : (column : List ℕ) (x : ℕ → ℕ) → Satisfies session packets column x → ComesFrom session eliminated (plan_on_column dense.plan column) x
-  came_from column x satisfies = record {
-    free = λ i. x (get_or dense.free i 0);
-    bytes = λ i h. satisfies.bytes (get_or dense.free i 0) (free_symbol i h);
-    each = λ s h. elim (at_symbol s h) [
-      | inl has ↦
-          ap x (sym (named dense.pivot_columns s has)) ∙
-          ((completed column x satisfies).pivots has.0 has.1 ∙
-          ap (value_at eliminated (plan_on_column dense.plan column) (λ i. x (get_or dense.free i 0))) (sym (place_at_pivot s has)))
-      | inr has ↦
-          ap x (sym (named dense.free s has)) ∙
-          ap (value_at eliminated (plan_on_column dense.plan column) (λ i. x (get_or dense.free i 0))) (sym (place_at_free s has))
-    ];
-  }
+  module _ (column : List ℕ) (x : ℕ → ℕ) (satisfies : Satisfies session packets column x) where
+    abbrev y : ℕ → ℕ
+    y = column_values peeled x
 
-  -- the last symbol is the last column, so its row is 0 at all others
-  last_alone : (s r i : ℕ) → suc s ≡ symbols_of session → place_of eliminated s ≡ Row r → i < length dense.free → free_entry eliminated r i ≡ 0
-  last_alone s r i last at h = elim (at_symbol s (omega (arith, last))) [
-    | inl has ↦
-        let row : get_or dense.pivot_rows has.0 0 ≡ r = ap row_of (sym (place_at_pivot s has) ∙ at) in
-        subst (λ (k : ℕ). matrix_entry dense.matrix k (get_or dense.free i 0) ≡ 0) row
-        (ArePivots-last dense.matrix dense.pivot_rows dense.pivot_columns has.0 (get_or dense.free i 0) reduced.pivots has.1
-        (omega (arith, named dense.pivot_columns s has, last, cols)) (reduced.columns.free_within i 0 h)
-        (λ e. pivot-apart dense.matrix.cols dense.pivot_columns dense.free has.0 i reduced.columns has.1 h (sym e)))
-    | inr has ↦
-        let bad : 0 ≡ 1 = ap is_row (sym (place_at_free s has) ∙ at) in
-        absurd (omega (arith, bad))
-  ]
+    abbrev done : List ℕ
+    done = plan_on_column dense.plan column
 
-  pub IsEliminated-reduced : IsEliminated session packets eliminated
-  IsEliminated-reduced = record {
+    length_is : length column ≡ length packets
+    length_is = column_length session packets column x satisfies
+
+    peeled_both : GiveSymbols session peeled (plan_on_column peeled.plan column) x
+        × Solves peeled.rows (plan_on_column peeled.plan column) peeled.leftover y
+    peeled_both =
+        (is.solutions column x length_is (column_bytes session packets column x satisfies) satisfies.bytes).0 satisfies
+
+    completed : IsCompleted dense done y
+    completed =
+        (Solves-completed peeled.leftover others done dense y reduced).0
+        ((keeps.solutions column y (long_as_rows column length_is) (column_bytes session packets column x satisfies)
+        (column_values-bytes x satisfies.bytes)).0 peeled_both.1)
+
+    own_value : (s r : ℕ) → s < symbols_of session → place_left peeled.places s ≡ OwnRow r
+        → x s ≡ gf_add (get_or done r 0) (free_value dense y r)
+    own_value s r h at =
+        peeled_both.0 s r h at ∙
+        (sym (keeps.results column y r (long_as_rows column length_is) (column_values-bytes x satisfies.bytes) peeled_both.1) ∙
+        own_result done y s r h at)
+
+    came_from : ComesFrom session eliminated done x
+    came_from = record {
+      free = λ i. y (get_or dense.free i 0);
+      bytes = λ i h. satisfies.bytes (get_or peeled.columns (get_or dense.free i 0) 0)
+          (is.placed.columns_below (get_or dense.free i 0) 0 (free_within i h));
+      each = by_kind (λ s place. x s ≡ value_at eliminated done (λ i. y (get_or dense.free i 0)) place)
+          (λ s r h at. own_value s r h at)
+          (λ s i h e. ap x (sym e) ∙ completed.pivots i h)
+          (λ s i h e. ap x (sym e));
+    }
+
+  -- ---- the last symbol of a padded session
+
+  module _ (padded : IsPadded session) where
+    last_place : (s : ℕ) → suc s ≡ symbols_of session → LastIs peeled.columns s
+    last_place s last =
+        subst (λ (xs : List ℕ). LastIs xs s) (sym is.placed.columns)
+        (last-column session peeled.inactive s padded last listed.inactive.begins)
+
+    last_left : (s : ℕ) (last : suc s ≡ symbols_of session) → place_left peeled.places s ≡ Column (last_place s last).0
+    last_left s last =
+        let at : LastIs peeled.columns s = last_place s last in
+        ap (place_left peeled.places) (sym at.2) ∙ is.placed.at_columns at.0 (omega (arith, at.1))
+
+    -- where it is at a pivot column, that is the last
+    pivot_is_last : (s p : ℕ) → p < length dense.pivot_columns → get_or peeled.columns (get_or dense.pivot_columns p 0) 0 ≡ s
+        → (last : suc s ≡ symbols_of session) → get_or dense.pivot_columns p 0 ≡ (last_place s last).0
+    pivot_is_last s p h e last =
+        ap column_left
+        (sym (is.placed.at_columns (get_or dense.pivot_columns p 0) (pivot_within p h)) ∙
+        (ap (place_left peeled.places) e ∙ last_left s last))
+
+  -- it is the last column, so its row is 0 at all others
+  last_alone : IsPadded session → (s : ℕ) → s < symbols_of session → suc s ≡ symbols_of session → (r i : ℕ)
+      → place_of eliminated s ≡ Row r → i < length dense.free → free_entry eliminated r i ≡ 0
+  last_alone padded =
+      by_kind (λ s place. suc s ≡ symbols_of session → (r i : ℕ) → place ≡ Row r → i < length dense.free → free_entry eliminated r i ≡ 0)
+      (λ s k h own_at last r i at w. absurd (no_row_at_column (place_left peeled.places s) k (last_place padded s last).0 own_at (last_left padded s last)))
+      (λ s p h e last r i at w.
+      let row : get_or dense.pivot_rows p 0 ≡ r = ap row_of at in
+      let column : get_or dense.pivot_columns p 0 ≡ (last_place padded s last).0 = pivot_is_last padded s p h e last in
+      subst (λ (k : ℕ). matrix_entry dense.matrix k (get_or dense.free i 0) ≡ 0) row
+      (ArePivots-last dense.matrix dense.pivot_rows dense.pivot_columns p (get_or dense.free i 0) reduced.pivots h
+      (omega (arith, column, (last_place padded s last).1, cols)) (reduced.columns.free_within i 0 w)
+      (λ f. pivot-apart dense.matrix.cols dense.pivot_columns dense.free p i reduced.columns h w (sym f))))
+      (λ s k h e last r i at w.
+      let bad : 0 ≡ 1 = ap is_row at in
+      absurd (omega (arith, bad)))
+
+  pub IsEliminated-peeled : IsEliminated session packets eliminated
+  IsEliminated-peeled = record {
     shape = shape;
-    makes = λ column v long bytes below zeros.
-        from_completed column (values_from eliminated (plan_on_column dense.plan column) v) long bytes (made_bytes column v bytes below)
-        (made_completed column v bytes below zeros);
+    makes = λ column v long bytes below zeros. made_satisfies column v long bytes below zeros;
     zero = λ column x satisfies. (completed column x satisfies).zero_rows;
-    comes = came_from;
-    last = λ s r i padded last at h. last_alone s r i last at h;
+    comes = λ column x satisfies. came_from column x satisfies;
+    last = λ s r i padded last at h. last_alone padded s (omega (arith, last)) last r i at h;
   }

@@ -1,10 +1,10 @@
-pub mod EquationLemmas
 pub mod KeptPackets
 pub mod AgreeingColumns
 pub mod AnswersRight
 pub mod RaisedFiles
 pub mod PayloadLemmas
 pub mod EliminatedLemmas
+pub mod LeftLemmas
 pub mod PlaceLemmas
 pub mod Offering
 pub mod Solving

@@ -1,10 +1,8 @@
--- The places of symbols, written one column after another, and lists of the first numbers.
-use Rattle.std.proofs.Common.{ℕ, zero, suc, ◌≡◌, ◌≢◌, ◌<◌, ◌≤◌, ◌+◌, ◌∙◌, inl, inr, List, [], ◌∷◌, ◌++◌, length, get_or, set, map-id, sym, ap, subst, arith, get_or-set_same, get_or-set_other}
+-- The places of the columns' symbols, written one column after another.
+use Rattle.std.proofs.Common.{ℕ, zero, suc, ◌≡◌, ◌≢◌, ◌<◌, ◌≤◌, ◌+◌, ◌∙◌, inl, inr, List, length, get_or, set, sym, ap, subst, arith, get_or-set_same, get_or-set_other}
 use Rattle.std.specs.Prelude.{All, AllPairs, Contains}
-use Rattle.std.specs.List.{range_with_len}
 use Rattle.std.proofs.lemmas.Bool.{cases_lt}
 use Rattle.std.proofs.lemmas.List.Elements.{Contains-get_or}
-use Rattle.std.proofs.lemmas.List.FromFn.{map-range_with_len_more}
 use Rattle.bats_dense.specs.Reduced.{AreSplit}
 use Rattle.bats_dense.proofs.Completing.{rising-apart, pivot-not-free}
 use Rattle.bats_decode.specs.declared.elimination.Place.{Place}
@@ -12,12 +10,6 @@ use Rattle.bats_decode.specs.declared.elimination.Place.TheVariants.{Row}
 use Rattle.bats_decode.specs.steps.Eliminated.{HavePlaces}
 
 -- ---- numbers
-
--- one more number
-pub range_with_len-more : (n : ℕ) → range_with_len 0 (n + 1) ≡ range_with_len 0 n ++ n ∷ []
-range_with_len-more n =
-    sym (map-id (range_with_len 0 (n + 1))) ∙
-    (map-range_with_len_more (λ k. k) 0 n n (omega arith) ∙ ap (λ xs. xs ++ n ∷ []) (map-id (range_with_len 0 n)))
 
 -- rising numbers are at least their places
 pub rising-at_least : (xs : List ℕ) (i : ℕ) → AllPairs (λ a b. a < b) xs → i < length xs → i ≤ get_or xs i 0

@@ -1,5 +1,5 @@
 pub mod Received
-pub mod Equations
+pub mod Left
 pub mod Eliminated
 pub mod Replayed
 pub mod Answered

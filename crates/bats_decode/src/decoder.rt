@@ -1,11 +1,12 @@
 //! The decoder: what was received, and its solving.
-ghost use Rattle.std.specs.Prelude.{◌≡◌, ◌<◌, ◌≤◌, ◌+◌, ◌*◌, ◌++◌, ◌∷◌, [], List, All, length, IfOk, IfErr, OnOk, OnErr};
+ghost use Rattle.std.specs.Prelude.{ℕ, ◌≡◌, ◌<◌, ◌≤◌, ◌+◌, ◌*◌, ◌++◌, ◌∷◌, [], List, All, length, IfOk, IfErr, OnOk, OnErr};
 
 use crate::answering::answer;
 use crate::elimination::{Place, eliminate};
 use crate::payload_rows::PayloadRows;
 use bats_batch::{Held, HeldEnd};
 use bats_model::{Answer, Nums, Packet, Session, Taken};
+use bats_peel::peel;
 use gf_rows::{Plan, Steps};
 use std::alloc::{AllocError, Global};
 use std::marker::Model;
@@ -21,6 +22,8 @@ pub struct Solved {
     pub packets: u64,
     /// The number of received packets that are kept.
     pub kept: u32,
+    /// The number of inactive symbols.
+    pub inactive: u32,
     /// The operations that were run on the payload rows, which are those of the kept packets: by rising batch number and,
     /// within a batch, in the order kept.
     pub plan: Plan,
@@ -51,6 +54,7 @@ impl Model for Decoder {
 }
 
 ghost use Rattle.bats_model.specs.Session.{symbols_of};
+ghost use Rattle.bats_model.specs.Peeling.{IsInactiveList, largest_degree};
 ghost use Rattle.bats_model.specs.RightAnswer.{IsRightAnswer};
 ghost use Rattle.bats_model.specs.Kept.{kept_count};
 ghost use Rattle.bats_model.specs.declared.packet.Packet.{Packet};
@@ -141,7 +145,8 @@ impl Decoder {
     }
 
     /// What the received packets say of the file. The number of workers is 1 to 64. Each operation of the plan is a step on
-    /// the payload rows, and one on their coefficients. An `Err` is want of memory, and drops what was received.
+    /// the payload rows. Where a packet contradicts, nothing is run on these, and the plan is empty. An `Err` is want of
+    /// memory, and drops what was received.
     pub fn solve<R: Threads + Sync, C: Ledger, L: Ledger>(
         self,
         rt: &R,
@@ -155,22 +160,27 @@ impl Decoder {
         ensures packets { IfOk result (λ solved. solved.packets ≡ self.packets) }
         ensures kept { IfOk result (λ solved. (packets : List Packet) → StandsFor packets self
             → solved.kept ≡ kept_count packets) }
+        ensures inactive { IfOk result (λ solved. (packets : List Packet) → StandsFor packets self
+            → (list : List ℕ) × (IsInactiveList self.held.session packets list × (solved.inactive ≡ length list))) }
         ensures fits { IfOk result (λ solved. All (FitsRows (row_count self.held.batches)) solved.plan) }
         ensures plan { IfOk result (λ solved. (packets : List Packet) → StandsFor packets self
             → PlanFollows self.held.session (kept_packets self.held.batches) solved.plan solved.rows solved.answer) }
+        ensures bound { IfOk result (λ solved. (packets : List Packet) → StandsFor packets self → length solved.plan
+            ≤ row_count self.held.batches * (largest_degree self.held.session packets + solved.inactive)) }
         ensures counted { IfOk result (λ solved. steps.new ≡ steps.old + length solved.plan) }
-        ensures coef_counted { IfOk result (λ solved. coef_steps.new ≡ coef_steps.old + length solved.plan) }
-        ensures coef_steps { coef_steps.new ≤ coef_steps.old + row_count self.held.batches * symbols_of self.held.session }
+        ensures coef_steps_rise { coef_steps.old ≤ coef_steps.new }
     {
         let session = self.session;
         let alloc = self.alloc;
         let packets = self.packets;
         let kept = self.held.rows();
         if self.contradicted {
+            let peeled = peel(alloc, &session, &self.held, coef_steps)?;
             return Ok(Solved {
                 answer: Answer::Inconsistent,
                 packets,
                 kept,
+                inactive: peeled.rows.cols(),
                 plan: Plan::new(alloc),
                 rows: Nums::new(alloc),
             });
@@ -185,6 +195,7 @@ impl Decoder {
             answer,
             packets,
             kept,
+            inactive: e.matrix.cols(),
             plan: e.plan,
             rows,
         })

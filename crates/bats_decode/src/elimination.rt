@@ -1,15 +1,22 @@
-//! The elimination of the kept packets' equations: which row gives which symbol, and which symbols are free.
-ghost use Rattle.std.specs.Prelude.{◌≡◌, ◌≤◌, ◌+◌, ◌*◌, IfOk, length};
+//! The elimination of the kept packets: peeling first, then the reduction of what is left over. It tells which row gives
+//! which symbol, and which symbols are free.
+ghost use Rattle.std.specs.Prelude.{ℕ, ◌≡◌, ◌≢◌, ◌<◌, ◌≤◌, ◌+◌, ◌*◌, List, IfOk, length, map};
 ghost use Rattle.std.specs.List.{range_with_len};
 ghost use Rattle.bats_model.specs.Session.{symbols_of};
-ghost use Rattle.bats_batch.specs.Held.{row_count, kept_packets};
+ghost use Rattle.bats_model.specs.Peeling.{IsInactiveList, largest_degree};
+ghost use Rattle.bats_model.specs.declared.packet.Packet.{Packet};
+ghost use Rattle.bats_batch.specs.Held.{StandsFor, row_count, kept_packets};
 ghost use Rattle.bats_dense.specs.Reduced.{AreSplit};
+ghost use Rattle.bats_peel.specs.Peeled.{place_of as place_left};
+ghost use Rattle.bats_peel.specs.declared.peeled.Place.TheVariants.{Row as OwnRow, Column};
+ghost use Rattle.bats_decode.specs.steps.Received.{HasReceived};
+ghost use Rattle.bats_decode.specs.steps.Left.{HaveOwnRows, AreOwnRows, HaveColumns, place_after};
 ghost use Rattle.bats_decode.specs.steps.Eliminated.{ArePlaces, IsEliminated};
 
-use crate::equations::equations;
 use bats_batch::Held;
 use bats_dense::reduce;
 use bats_model::{Nums, Session};
+use bats_peel::{Place as Left, Places, peel};
 use gf_rows::{Matrix, Plan, Steps};
 use std::alloc::{AllocError, Global};
 use std::sync::ledger::Ledger;
@@ -27,7 +34,7 @@ pub(crate) enum Place {
 /// the sum of the row's entries times the free symbols.
 #[derive(Drop)]
 pub(crate) struct Elimination {
-    /// A row for each kept packet.
+    /// A row for each kept packet, and a column for each inactive symbol.
     pub(crate) matrix: Matrix,
     /// The operations on the payload rows.
     pub(crate) plan: Plan,
@@ -39,30 +46,35 @@ pub(crate) struct Elimination {
     pub(crate) zero_rows: Nums,
 }
 
-// The numbers from 0 on, this many.
-fn numbers_below(alloc: Global, count: u32) -> Result<Nums, AllocError>
-    ensures { IfOk result (λ numbers. numbers ≡ range_with_len 0 count) }
+// The rows of the symbols that peeling gave one.
+fn own_rows(alloc: Global, symbols: u32, left: &Places) -> Result<Nums, AllocError>
+    requires count { length left.now ≡ symbols }
+    requires once { HaveOwnRows symbols left.now }
+    ensures { IfOk result (AreOwnRows symbols left.now) }
 {
-    let mut numbers = Nums::new(alloc);
-    'numbers: for i in 0..count {
-        numbers.push(i)?;
+    let mut rows = Nums::new(alloc);
+    'symbols: for s in 0..symbols {
+        match left.get(s) {
+            Left::Row(r) => rows.push(r)?,
+            Left::Column(_) => {}
+        }
     }
-    Ok(numbers)
+    Ok(rows)
 }
 
-// The places of symbols: at each pivot column its row, and at each free column its number among these.
-fn places_of(
+// The places of the columns' symbols: at each pivot column its row, and at each free column its number among these.
+fn column_places(
     alloc: Global,
-    symbols: u32,
+    columns: u32,
     pivot_rows: &[u32],
     pivot_columns: &[u32],
     free: &[u32],
 ) -> Result<Vec<Place>, AllocError>
     requires sizes { length pivot_rows.now ≡ length pivot_columns.now }
-    requires split { AreSplit symbols pivot_columns.now free.now }
-    ensures { IfOk result (λ places. ArePlaces symbols pivot_rows.now pivot_columns.now free.now places.items) }
+    requires split { AreSplit columns pivot_columns.now free.now }
+    ensures { IfOk result (λ places. ArePlaces columns pivot_rows.now pivot_columns.now free.now places.items) }
 {
-    let mut places = vec![in alloc; Place::Row(0); symbols as usize]?;
+    let mut places = vec![in alloc; Place::Row(0); columns as usize]?;
     'pivots: for (i, column) in pivot_columns.iter().enumerate() {
         places[*column as usize] = Place::Row(pivot_rows[i]);
     }
@@ -72,37 +84,73 @@ fn places_of(
     Ok(places)
 }
 
-/// Eliminates the equations of the kept packets. Each operation on them is a step, at most as many as there are kept
-/// packets times symbols, and stands in the plan.
+// The place of a symbol that peeling left here, by the places of the columns' symbols.
+fn place_of(columns: &[Place], left: Left) -> Place
+    requires { (j : ℕ) → left ≡ Column j → j < length columns.now }
+    ensures { result ≡ place_after columns.now left }
+{
+    match left {
+        Left::Row(r) => Place::Row(r),
+        Left::Column(j) => columns[j as usize],
+    }
+}
+
+// The places of the symbols.
+fn places_of(
+    alloc: Global,
+    symbols: u32,
+    left: &Places,
+    columns: &[Place],
+) -> Result<Vec<Place>, AllocError>
+    requires count { length left.now ≡ symbols }
+    requires columns { HaveColumns symbols (length columns.now) left.now }
+    ensures { IfOk result (λ places. places.items
+        ≡ map (λ s. place_after columns.now (place_left left.now s)) (range_with_len 0 symbols)) }
+{
+    let mut places = Vec::new(alloc);
+    'symbols: for s in 0..symbols {
+        places.push(place_of(columns, left.get(s)))?;
+    }
+    Ok(places)
+}
+
+/// Eliminates the kept packets: peels them, and reduces the rows that are left over. The rows of the other symbols are
+/// made 0 at the pivot columns. Each operation stands in the plan.
 pub(crate) fn eliminate<C: Ledger>(
     alloc: Global,
     session: &Session,
     held: &Held,
     coef_steps: &mut Steps<C>,
 ) -> Result<Elimination, AllocError>
-    requires { held.now.session ≡ session.now }
+    requires session { held.now.session ≡ session.now }
+    requires received { HasReceived held.now }
     ensures eliminated { IfOk result (IsEliminated session.now (kept_packets held.now.batches)) }
-    ensures counted { IfOk result (λ e. coef_steps.new ≡ coef_steps.old + length e.plan) }
-    ensures coef_steps { coef_steps.new ≤ coef_steps.old + row_count held.now.batches * symbols_of session.now }
+    ensures inactive { IfOk result (λ e. (packets : List Packet) → StandsFor packets held.now
+        → (list : List ℕ) × (IsInactiveList session.now packets list × (e.matrix.cols ≡ length list))) }
+    ensures bound { IfOk result (λ e. (packets : List Packet) → StandsFor packets held.now → length e.plan
+        ≤ row_count held.now.batches * (largest_degree session.now packets + e.matrix.cols)) }
+    ensures coef_steps_rise { coef_steps.old ≤ coef_steps.new }
 {
     let symbols = session.symbols();
-    let matrix = equations(alloc, session, held)?;
-    let rows = numbers_below(alloc, held.rows())?;
+    let peeled = peel(alloc, session, held, coef_steps)?;
+    let others = own_rows(alloc, symbols, &peeled.places)?;
+    let count = peeled.rows.cols();
     let dense = reduce(
         alloc,
-        matrix,
-        rows,
-        Nums::new(alloc),
-        Plan::new(alloc),
+        peeled.rows,
+        peeled.leftover,
+        others,
+        peeled.plan,
         coef_steps,
     )?;
-    let places = places_of(
+    let columns = column_places(
         alloc,
-        symbols,
+        count,
         dense.pivot_rows.as_slice(),
         dense.pivot_columns.as_slice(),
         dense.free.as_slice(),
     )?;
+    let places = places_of(alloc, symbols, &peeled.places, &columns)?;
     Ok(Elimination {
         matrix: dense.matrix,
         plan: dense.plan,

@@ -85,13 +85,14 @@ fn kind_of(answer: &Answer) -> &'static str {
     }
 }
 
-// What the packets give has this kind and these numbers of kept packets and of symbols with a row.
+// What the packets give has this kind and these numbers of kept packets, of inactive symbols and of symbols with a row.
 fn check<R: Threads + Sync + AllocGlobal + Abort>(
     rt: &R,
     length: u64,
     packets: &[Sent],
     kind: &str,
     kept: u32,
+    inactive: u32,
     rows: usize,
 ) -> Result<Solved, Fail> {
     let counters = (Blank::new(1), Blank::new(1));
@@ -99,20 +100,29 @@ fn check<R: Threads + Sync + AllocGlobal + Abort>(
     assert_eq!(rt; kind_of(&found.answer), kind);
     assert_eq!(rt; found.packets, packets.len() as u64);
     assert_eq!(rt; found.kept, kept);
+    assert_eq!(rt; found.inactive, inactive);
     assert_eq!(rt; found.rows.len(), rows);
     Ok(found)
 }
 
 #[test]
 fn packets_are_solved(rt: HostRuntime) -> Result<(), Fail> {
-    let found = check(&rt, 4, &[([2, 3], [7, 8]), ([1, 0], [1, 2])], "file", 2, 2)?;
+    let found = check(
+        &rt,
+        4,
+        &[([2, 3], [7, 8]), ([1, 0], [1, 2])],
+        "file",
+        2,
+        0,
+        2,
+    )?;
     if let Answer::File(file) = &found.answer {
         assert_eq!(&rt; file.as_slice(), [1, 2, 3, 4].as_slice());
     }
     assert!(&rt; found.plan.len() > 0);
-    check(&rt, 4, &[([1, 1], [2, 6])], "need more", 1, 0)?;
-    check(&rt, 4, &[([0, 0], [0, 1])], "inconsistent", 0, 0)?;
-    check(&rt, 3, &[([0, 1], [3, 1])], "inconsistent", 1, 0)?;
-    check(&rt, 0, &[], "file", 0, 0)?;
+    check(&rt, 4, &[([1, 1], [2, 6])], "need more", 1, 1, 0)?;
+    check(&rt, 4, &[([0, 0], [0, 1])], "inconsistent", 0, 2, 0)?;
+    check(&rt, 3, &[([0, 1], [3, 1])], "inconsistent", 1, 2, 0)?;
+    check(&rt, 0, &[], "file", 0, 0, 0)?;
     Ok(())
 }

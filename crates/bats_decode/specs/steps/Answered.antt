@@ -1,5 +1,5 @@
 -- What an answer has to do with the elimination and the payload rows after its plan.
-use Rattle.std.specs.Prelude.{ℕ, suc, ◌≡◌, ◌≢◌, ◌<◌, ◌≤◌, ◌+◌, ◌*◌, ◌⊎◌, ◌==◌, if◌then◌else◌, List, All, length, slice_index}
+use Rattle.std.specs.Prelude.{ℕ, suc, ◌≡◌, ◌≢◌, ◌<◌, ◌≤◌, ◌+◌, ◌*◌, ◌⊎◌, ◌==◌, if◌then◌else◌, List, All, length}
 use Rattle.gf_core.specs.Field.{gf_add}
 use Rattle.gf_rows.specs.Matrix.{Grid, matrix_entry}
 use Rattle.bats_model.specs.Session.{SessionData, symbols_of}

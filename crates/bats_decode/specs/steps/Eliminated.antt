@@ -21,7 +21,7 @@ place_of e s = slice_index_or e.places.items s (Row 0)
 abbrev pub HavePlaces : ℕ → (ℕ → Place) → List ℕ → List Place → Type 0
 HavePlaces n place columns places = (i : ℕ) → i < n → slice_index_or places (slice_index columns i) (Row 0) ≡ place i
 
--- at each pivot column its row, and at each free column its number among these
+-- the places of so many columns' symbols: at each pivot column its row, and at each free column its number among these
 pub record ArePlaces (symbols : ℕ) (pivot_rows pivot_columns free : List ℕ) (places : List Place) : Type 0 where
   pub count : length places ≡ symbols
   pub pivots : HavePlaces (length pivot_columns) (λ i. Row (slice_index pivot_rows i)) pivot_columns places

@@ -1,62 +1,9 @@
-use Rattle.std.proofs.Common.{ℕ, ◌≡◌, ◌∙◌, length, get_or, subst, arith, length-set}
-use Rattle.bats_decode.specs.declared.elimination.Place.TheVariants.{Row, Free}
-use Rattle.bats_decode.specs.steps.Eliminated.{HavePlaces}
-use Rattle.bats_decode.proofs.PlaceLemmas.{rising-count, HavePlaces-none, HavePlaces-more, HavePlaces-other, pivot-apart}
+use Rattle.std.proofs.Common.{◌∙◌, ap}
+use Rattle.bats_decode.specs.steps.Left.{place_after}
+use Rattle.bats_decode.proofs.LeftLemmas.{places-more}
 use Rattle.bats_decode.proofs.elimination.places_of.Goals as goal
 
-pub pivots-init : goal.pivots-init
-pivots-init c = record {
-  count = omega (arith, c.in_ok-places.ensures.len, c.in_ok-places.places.ok.0);
-  pivots = HavePlaces-none (λ k. Row (get_or c.args.pivot_rows.now k 0)) c.args.pivot_columns.now c.in_ok-places.places.items;
-}
-
-pub pivots-preserved : goal.pivots-preserved
-pivots-preserved c = record {
-  count =
-      length-set c.pivots.places.items (get_or c.args.pivot_columns.now c.pivots.i 0) (Row (get_or c.args.pivot_rows.now c.pivots.i 0)) ∙
-      c.pivots.invariant.count;
-  pivots =
-      HavePlaces-more c.pivots.i (λ k. Row (get_or c.args.pivot_rows.now k 0)) c.args.pivot_columns.now c.pivots.places.items
-      c.requires.split.pivots_rise c.pivots-test.true
-      (omega (arith, c.pivots.invariant.count, c.requires.split.pivots_within c.pivots.i 0 c.pivots-test.true)) c.pivots.invariant.pivots;
-}
-
-pub columns-init : goal.columns-init
-columns-init c =
-    let e : c.pivots.i ≡ length c.args.pivot_columns.now = omega (arith, c.pivots-test.false, c.pivots.auto.i-end) in
-    record {
-      count = c.pivots.invariant.count;
-      pivots = subst (λ (n : ℕ). HavePlaces n (λ k. Row (get_or c.args.pivot_rows.now k 0)) c.args.pivot_columns.now c.pivots.places.items)
-          e c.pivots.invariant.pivots;
-      columns = HavePlaces-none (λ k. Free k) c.args.free.now c.pivots.places.items;
-    }
-
-pub overflow_cast-i : goal.overflow_cast-i
-overflow_cast-i c =
-    omega (
-      arith,
-      c.ranges.symbols,
-      rising-count c.args.free.now c.args.symbols c.columns.i c.requires.split.free_rise c.requires.split.free_within c.columns-test.true,
-    )
-
-pub columns-preserved : goal.columns-preserved
-columns-preserved c = record {
-  count = length-set c.columns.places.items (get_or c.args.free.now c.columns.i 0) (Free c.columns.i) ∙ c.columns.invariant.count;
-  pivots =
-      HavePlaces-other (length c.args.pivot_columns.now) (get_or c.args.free.now c.columns.i 0) (λ k. Row (get_or c.args.pivot_rows.now k 0))
-      c.args.pivot_columns.now c.columns.places.items (Free c.columns.i)
-      (λ k h. pivot-apart c.args.symbols c.args.pivot_columns.now c.args.free.now k c.columns.i c.requires.split h c.columns-test.true)
-      c.columns.invariant.pivots;
-  columns =
-      HavePlaces-more c.columns.i (λ k. Free k) c.args.free.now c.columns.places.items c.requires.split.free_rise c.columns-test.true
-      (omega (arith, c.columns.invariant.count, c.requires.split.free_within c.columns.i 0 c.columns-test.true)) c.columns.invariant.columns;
-}
-
-pub returns : goal.returns
-returns c =
-    let e : c.columns.i ≡ length c.args.free.now = omega (arith, c.columns-test.false, c.columns.auto.i-end) in
-    record {
-      count = c.columns.invariant.count;
-      pivots = c.columns.invariant.pivots;
-      columns = subst (λ (n : ℕ). HavePlaces n (λ k. Free k) c.args.free.now c.columns.places.items) e c.columns.invariant.columns;
-    }
+pub symbols-preserved : goal.symbols-preserved
+symbols-preserved c =
+    places-more c.args.columns.now c.args.left.now c.symbols.s c.place_of.result c.symbols.places.items c.push.new.self.items
+    c.in_ok-push.ensures.items (c.place_of.ensures ∙ ap (place_after c.args.columns.now) c.get.ensures) c.symbols.invariant

@@ -1,17 +1,8 @@
-use Rattle.std.proofs.Common.{◌≡◌, length, get_or}
-use Rattle.bats_decode.specs.declared.elimination.Place.TheVariants.{Row, Free}
-use Rattle.bats_decode.specs.steps.Eliminated.{HavePlaces}
+use Rattle.std.proofs.Common.{◌≡◌, map}
+use Rattle.std.specs.List.{range_with_len}
+use Rattle.bats_peel.specs.Peeled.{place_of as place_left}
+use Rattle.bats_decode.specs.steps.Left.{place_after}
 use Rattle.bats_decode.proofs.elimination.places_of.Given as goal
 
-abbrev pub invariant-pivots : goal.invariant-pivots
-invariant-pivots l = record {
-  count : length l.places.items ≡ l.fn.symbols;
-  pivots : HavePlaces l.i (λ k. Row (get_or l.fn.pivot_rows k 0)) l.fn.pivot_columns l.places.items;
-}
-
-abbrev pub invariant-columns : goal.invariant-columns
-invariant-columns l = record {
-  count : length l.places.items ≡ l.fn.symbols;
-  pivots : HavePlaces (length l.fn.pivot_columns) (λ k. Row (get_or l.fn.pivot_rows k 0)) l.fn.pivot_columns l.places.items;
-  columns : HavePlaces l.i (λ k. Free k) l.fn.free l.places.items;
-}
+abbrev pub invariant-symbols : goal.invariant-symbols
+invariant-symbols l = l.places.items ≡ map (λ s. place_after l.columns (place_left l.left s)) (range_with_len 0 l.s)

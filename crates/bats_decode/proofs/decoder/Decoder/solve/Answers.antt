@@ -1,10 +1,12 @@
-use Rattle.std.proofs.Common.{ℕ, ◌≡◌, ◌∙◌, ap, sym, subst, List, All, length}
+use Rattle.std.proofs.Common.{ℕ, ◌≡◌, ◌≤◌, ◌+◌, ◌*◌, ◌∙◌, ap, sym, subst, arith, List, All, length}
+use Rattle.gf_rows.specs.declared.operation.Op.{Op}
 use Rattle.gf_rows.specs.Operation.{FitsRows}
 use Rattle.bats_model.specs.Session.{SessionData}
+use Rattle.bats_model.specs.Peeling.{IsInactiveList, largest_degree}
 use Rattle.bats_model.specs.PacketFile.{HasShape}
 use Rattle.bats_model.specs.RightAnswer.{IsRightAnswer}
 use Rattle.bats_model.specs.declared.packet.Packet.{Packet}
-use Rattle.bats_batch.specs.Held.{row_count, kept_packets}
+use Rattle.bats_batch.specs.Held.{HeldData, row_count, kept_packets}
 use Rattle.bats_decode.specs.Decoder.{DecoderData, StandsFor}
 use Rattle.bats_decode.specs.SolvingPlan.{PlanFollows}
 use Rattle.bats_decode.specs.declared.elimination.Place.{Place}
@@ -12,6 +14,7 @@ use Rattle.bats_decode.specs.steps.Eliminated.{IsShaped}
 use Rattle.bats_decode.specs.steps.Replayed.{IsReplayed}
 use Rattle.bats_decode.specs.steps.SymbolRows.{rows_with}
 use Rattle.bats_decode.proofs.AnswersRight.{answers-right}
+use Rattle.bats_decode.proofs.LeftLemmas.{cols-inactive}
 use Rattle.bats_decode.proofs.PayloadLemmas.{length-kept_packets}
 use Rattle.bats_decode.proofs.Solving.{shapes-kept, right-contradicted, right-of_kept, replayed-payloads, length-replayed, plan-follows}
 use Rattle.bats_decode.proofs.decoder.Decoder.solve.Goals as goal
@@ -19,6 +22,53 @@ use Rattle.bats_decode.proofs.decoder.Decoder.solve.Goals as goal
 pub returns-then-self-clause-right : goal.returns-then-self-clause-right
 returns-then-self-clause-right g c packets h =
     right-contradicted packets c.args.self (ap (λ (d : DecoderData). d.contradicted) (sym c.self.view_is) ∙ c.if-self.true) h
+
+pub returns-then-self-clause-inactive : goal.returns-then-self-clause-inactive
+returns-then-self-clause-inactive g c packets h =
+    let inside = c.self.inside in
+    let peeled = c.in_ok-peeled.peeled in
+    let stands = subst (StandsFor packets) (sym c.self.view_is) h in
+    let session : inside.session ≡ c.args.self.held.session =
+    sym c.self.invariant.0 ∙ ap (λ (d : DecoderData). d.held.session) c.self.view_is in (
+      peeled.inactive,
+      (
+        subst (λ (s : SessionData). IsInactiveList s packets peeled.inactive) session (c.in_ok-peeled.ensures.inactive packets stands.holds),
+        c.cols.ensures
+            ∙ cols-inactive inside.session (length (kept_packets inside.held.batches)) peeled
+            (c.in_ok-peeled.ensures.peeled packets stands.holds).placed,
+      ),
+    )
+
+pub returns-then-self-clause-bound : goal.returns-then-self-clause-bound
+returns-then-self-clause-bound g c packets h =
+    let none : length c.new.result ≡ 0 = ap (λ (ops : List Op). length ops) c.new.ensures in
+    omega (arith, none)
+
+pub returns-clause-inactive : goal.returns-clause-inactive
+returns-clause-inactive g c packets h =
+    let inside = c.self.inside in
+    let stands = subst (StandsFor packets) (sym c.self.view_is) h in
+    let session : inside.session ≡ c.args.self.held.session =
+    sym c.self.invariant.0 ∙ ap (λ (d : DecoderData). d.held.session) c.self.view_is in
+    let found = c.in_ok-e.ensures.inactive packets stands.holds in (
+      found.0,
+      (
+        subst (λ (s : SessionData). IsInactiveList s packets found.0) session found.1.0,
+        c.cols-2.ensures ∙ found.1.1,
+      ),
+    )
+
+pub returns-clause-bound : goal.returns-clause-bound
+returns-clause-bound g c packets h =
+    let inside = c.self.inside in
+    let plan : List Op = c.in_ok-e.e.plan in
+    let stands = subst (StandsFor packets) (sym c.self.view_is) h in
+    let Within : HeldData → ℕ → Type 0 =
+    λ held inactive. length plan ≤ row_count held.batches * (largest_degree held.session packets + inactive) in
+    let found : Within inside.held c.in_ok-e.e.matrix.cols =
+    subst (λ (s : SessionData). length plan ≤ row_count inside.held.batches * (largest_degree s packets + c.in_ok-e.e.matrix.cols))
+    (sym c.self.invariant.0) (c.in_ok-e.ensures.bound packets stands.holds) in
+    subst (λ (d : DecoderData). Within d.held c.cols-2.result) c.self.view_is (subst (Within inside.held) (sym c.cols-2.ensures) found)
 
 pub answer-requires-clause-shape : goal.answer-requires-clause-shape
 answer-requires-clause-shape g c =
