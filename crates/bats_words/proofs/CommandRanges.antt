@@ -11,11 +11,11 @@ use Rattle.hex.specs.Hex.{decode_sized}
 use Rattle.hex.specs.declared.error.FromHexError.{FromHexError}
 use Rattle.hex.proofs.HexLemmas.{decode_sized-ok, decode_sized-twice, decode_of-ok}
 use Rattle.bats_words.specs.declared.command.Command.{Command}
-use Rattle.bats_words.specs.declared.command.Command.TheVariants.{Source, Relay, Sink, Check, Show}
+use Rattle.bats_words.specs.declared.command.Command.TheVariants.{Source, Relay, Sink, Check, Show, Help}
 use Rattle.bats_words.specs.Options.{IsSeed, InRanges}
 use Rattle.bats_words.specs.WordItems.{KnownNames, read_items, value_of, is_there}
 use Rattle.bats_words.specs.WordValues.{number_in, is_number_word, rule_of, seed_of}
-use Rattle.bats_words.specs.Words.{command_of, read_by, read_or, source_of, source_names, relay_of, relay_names, sink_of, sink_names, check_of, check_names, show_of, show_names}
+use Rattle.bats_words.specs.Words.{command_of, read_by, read_or, source_of, source_names, relay_of, relay_names, sink_of, sink_names, check_of, check_names, show_of, show_names, help_of, help_names}
 use Rattle.bats_words.proofs.CommandWords.{Builder}
 
 -- ---- values
@@ -124,6 +124,12 @@ show_of-ranges value flag command h =
     let same : Show ≡ command = cc in
     subst (λ (c : Command). InRanges c) same tt
 
+pub help_of-ranges : IsWithin help_of
+unfolding help_of
+help_of-ranges value flag command h =
+    let same : Help ≡ command = cc in
+    subst (λ (c : Command). InRanges c) same tt
+
 -- ---- every command
 
 read_by-ranges : (known : KnownNames) (build : Builder) → IsWithin build → (words : List (List ℕ)) (command : Command)
@@ -155,4 +161,5 @@ command_of-ranges (name ∷ words) command h =
     by_choice _ _ _ command (read_by-ranges relay_names relay_of relay_of-ranges words command) (
     by_choice _ _ _ command (read_by-ranges sink_names sink_of sink_of-ranges words command) (
     by_choice _ _ _ command (read_by-ranges check_names check_of check_of-ranges words command) (
-    by_choice _ _ _ command (read_by-ranges show_names show_of show_of-ranges words command) (no_command command))))) h
+    by_choice _ _ _ command (read_by-ranges show_names show_of show_of-ranges words command) (
+    by_choice _ _ _ command (read_by-ranges help_names help_of help_of-ranges words command) (no_command command)))))) h

@@ -3,7 +3,7 @@ use Rattle.std.proofs.Common.{◌≡◌, ℕ, Bool, true, false, List, Option, S
 use Rattle.std.specs.Option.{option_and_then}
 use Rattle.bats_words.specs.WordItems.{KnownNames, Item, is_among, items_of, read_items, value_of, is_there}
 use Rattle.bats_words.specs.WordLookup.{word_after}
-use Rattle.bats_words.specs.Words.{read_by, source_of, source_names, relay_of, relay_names, sink_of, sink_names, check_of, check_names, show_of, show_names}
+use Rattle.bats_words.specs.Words.{read_by, source_of, source_names, relay_of, relay_names, sink_of, sink_names, check_of, check_names, show_of, show_names, help_of, help_names}
 use Rattle.bats_words.specs.declared.command.Command.{Command}
 use Rattle.bats_words.proofs.WordLookups.{some_of, none_of, items_of-read, value_of-items, is_there-items}
 
@@ -69,3 +69,7 @@ check_of-items words items e = rw (value_of-items check_names (codes "--workers"
 pub show_of-items : (words : List (List ℕ)) (items : List Item) → items_of show_names words ≡ Some items → of_words show_of words ≡ of_items show_of items
 unfolding show_of
 show_of-items words items e = refl
+
+pub help_of-items : (words : List (List ℕ)) (items : List Item) → items_of help_names words ≡ Some items → of_words help_of words ≡ of_items help_of items
+unfolding help_of
+help_of-items words items e = refl

@@ -1,3 +1,4 @@
+pub mod Help
 pub mod Options
 pub mod WordItems
 pub mod WordLookup

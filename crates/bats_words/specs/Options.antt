@@ -41,3 +41,4 @@ InRanges (commands.Relay seed extra count) = HasCount count × IsSeed seed
 InRanges (commands.Sink workers both) = HasWorkers workers
 InRanges (commands.Check workers) = HasWorkers workers
 InRanges commands.Show = Unit {0}
+InRanges commands.Help = Unit {0}

@@ -5,7 +5,7 @@ use Rattle.std.specs.Str.{bytes_eq}
 use Rattle.bats_words.specs.WordItems.{KnownNames, read_items, value_of, is_there}
 use Rattle.bats_words.specs.WordValues.{number_in, rule_of, seed_of}
 use Rattle.bats_words.specs.declared.command.Command.{Command}
-use Rattle.bats_words.specs.declared.command.Command.TheVariants.{Source, Relay, Sink, Check, Show}
+use Rattle.bats_words.specs.declared.command.Command.TheVariants.{Source, Relay, Sink, Check, Show, Help}
 
 -- the second step, if the first gave a value
 infixl 10 ◌>>=◌
@@ -92,6 +92,16 @@ show_names = record { options = []; flags = [] }
 unfoldable pub show_of : (List ℕ → Option (List ℕ)) → (List ℕ → Bool) → Option Command
 show_of value flag = Some Show
 
+-- ---- help
+
+-- `help` has no names
+abbrev pub help_names : KnownNames
+help_names = record { options = []; flags = [] }
+
+-- The command `help`, which no word changes.
+unfoldable pub help_of : (List ℕ → Option (List ℕ)) → (List ℕ → Bool) → Option Command
+help_of value flag = Some Help
+
 -- ---- every command
 
 -- the command that the words are, the first of which is its name
@@ -103,4 +113,5 @@ command_of (name ∷ words) =
     else if bytes_eq name (codes "sink") then read_by sink_names sink_of words
     else if bytes_eq name (codes "check") then read_by check_names check_of words
     else if bytes_eq name (codes "show") then read_by show_names show_of words
+    else if bytes_eq name (codes "help") then read_by help_names help_of words
     else None

@@ -43,4 +43,6 @@ pub enum Command {
     },
     /// Writes a line for each record that is read.
     Show,
+    /// Writes what the commands are, and reads nothing.
+    Help,
 }

@@ -2,9 +2,11 @@
 #![tactic(auto)]
 
 mod command;
+mod help;
 mod source_options;
 mod words;
 
 pub use command::Command;
+pub use help::help_text;
 pub use source_options::SourceOptions;
 pub use words::parse;

@@ -6,6 +6,7 @@ ghost use Rattle.bats_words.specs.WordLookup.{word_after};
 ghost use Rattle.bats_words.specs.WordValues.{number_in};
 ghost use Rattle.bats_words.specs.Words.{command_of, read_by, read_or, source_of, source_names, relay_of, relay_names};
 ghost use Rattle.bats_words.specs.Words.{sink_of, sink_names, check_of, check_names, show_of, show_names};
+ghost use Rattle.bats_words.specs.Words.{help_of, help_names};
 
 mod items;
 mod options;
@@ -28,6 +29,7 @@ pub fn parse(words: &Vec<String>) -> Option<Command>
         "sink" => sink(rest),
         "check" => check(rest),
         "show" => show(rest),
+        "help" => help(rest),
         _ => None,
     }
 }
@@ -177,6 +179,21 @@ fn show(words: &[String]) -> Option<Command>
     Some(Command::Show)
 }
 
+// `help` has no names.
+const HELP: Names = Names {
+    options: &[],
+    flags: &[],
+};
+
+fn help(words: &[String]) -> Option<Command>
+    ensures { result ≡ read_by help_names help_of (map string_bytes words.now) }
+{
+    if !are_read(&HELP, words) {
+        return None;
+    }
+    Some(Command::Help)
+}
+
 #[cfg(test)]
 mod tests {
     use super::*;
@@ -262,7 +279,7 @@ mod tests {
     }
 
     #[test]
-    fn reads_relay_sink_check_and_show(rt: HostRuntime) -> Result<(), Fail> {
+    fn reads_relay_sink_check_show_and_help(rt: HostRuntime) -> Result<(), Fail> {
         for (line, workers, both) in [
             ("sink", 1, false),
             ("sink --workers 1", 1, false),
@@ -304,6 +321,7 @@ mod tests {
             );
         }
         assert_eq!(rt; parsed(&rt, "show")?, Some(Command::Show));
+        assert_eq!(rt; parsed(&rt, "help")?, Some(Command::Help));
         Ok(())
     }
 
@@ -316,7 +334,9 @@ mod tests {
             "sourc",
             "sync",
             "sinks",
-            "help",
+            "helps",
+            "--help",
+            "-h",
             "relay",
             "Source --m 2 --t 2 --seed 00112233445566778899aabbccddeeff --batches 1",
             "--m 2 source --t 2 --seed 00112233445566778899aabbccddeeff --batches 1",
@@ -373,7 +393,7 @@ mod tests {
             "relay --seed 00112233445566778899aabbccddeeff --rule fixe --count 1",
             "relay --seed 00112233445566778899aabbccddeeff --rule fixed extra --count 1",
             "relay --seed 00112233445566778899aabbccddeeff --rule fixed --count 1 --both",
-            // Other words of `sink` and `check`, and words after `show`.
+            // Other words of `sink` and `check`, and words after `show` and `help`.
             "sink --workers",
             "sink --workers --both",
             "sink --workers 0",
@@ -394,6 +414,10 @@ mod tests {
             "show --both",
             "show x",
             "show ",
+            "help sink",
+            "help --workers 1",
+            "help --help",
+            "help ",
         ] {
             assert_eq!(rt; parsed(&rt, line)?, None, "at {line}");
         }
