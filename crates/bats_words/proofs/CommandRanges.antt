@@ -1,7 +1,7 @@
 -- The values of the command that words are stand in their ranges.
 use Rattle.std.proofs.Common.{ℕ, ◌≡◌, ◌≤◌, ◌<◌, ◌*◌, Bool, true, false, ◌&&◌, cond, List, [], ◌∷◌, length, sym, ◌∙◌, subst, Option, None, Some, Result, Ok, Err, arith, rules}
 use Rattle.std.proofs.lemmas.Bool.Decides.{nat_tests}
-use Rattle.std.specs.Prelude.{codes, nat_le, IfSome}
+use Rattle.std.specs.Prelude.{codes, nat_le, IfOk}
 use Rattle.std.specs.Option.{option_and_then}
 use Rattle.std.specs.Result.{result_ok}
 use Rattle.std.proofs.lemmas.Option.{cond_some, option_and_then_some}
@@ -12,6 +12,8 @@ use Rattle.hex.specs.declared.error.FromHexError.{FromHexError}
 use Rattle.hex.proofs.HexLemmas.{decode_sized-ok, decode_sized-twice, decode_of-ok}
 use Rattle.bats_words.specs.declared.command.Command.{Command}
 use Rattle.bats_words.specs.declared.command.Command.TheVariants.{Source, Relay, Sink, Check, Show, Help}
+use Rattle.bats_words.specs.declared.words_end.WordsEnd.{WordsEnd}
+use Rattle.bats_words.specs.Answer.{IsAnswer}
 use Rattle.bats_words.specs.Options.{IsSeed, InRanges}
 use Rattle.bats_words.specs.WordItems.{KnownNames, read_items, value_of, is_there}
 use Rattle.bats_words.specs.WordValues.{number_in, is_number_word, rule_of, seed_of}
@@ -138,11 +140,11 @@ read_by-ranges known build within words command h =
     option_and_then_some _ (read_items known words) command h (λ items items_is rest.
     within (λ name. value_of name items) (λ name. is_there name items) command rest)
 
--- so has what the code reads by it
-pub read_by-within : (known : KnownNames) (build : Builder) → IsWithin build → (words : List (List ℕ)) (result : Option Command)
-    → result ≡ read_by known build words → IfSome result InRanges
-read_by-within known build within words None h = tt
-read_by-within known build within words (Some command) h = read_by-ranges known build within words command (sym h)
+-- so has what the code answers
+pub read_by-within : (known : KnownNames) (build : Builder) → IsWithin build → (words : List (List ℕ)) (result : Result Command WordsEnd)
+    → IsAnswer (read_by known build words) result → IfOk result InRanges
+read_by-within known build within words (Ok command) h = read_by-ranges known build within words command h
+read_by-within known build within words (Err end) h = tt
 
 by_choice : (b : Bool) (o p : Option Command) (command : Command) → (o ≡ Some command → InRanges command)
     → (p ≡ Some command → InRanges command) → cond b o p ≡ Some command → InRanges command

@@ -4,3 +4,5 @@ pub mod WordLookups
 pub mod WordNumbers
 pub mod WordSplits
 pub mod CommandRanges
+pub mod ClapWalk
+pub mod ClapMatches

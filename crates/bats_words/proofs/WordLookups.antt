@@ -1,13 +1,13 @@
 -- What is found among the words is what is found among their items.
-use Rattle.std.proofs.Common.{◌≡◌, ℕ, ◌+◌, Bool, true, false, not, cond, ◌&&◌, ◌||◌, nat_le, List, [], ◌∷◌, ◌++◌, Option, Some, None, is_some, refl, zero-add, sym, ap, subst, ◌∙◌, ⊎_elim}
+use Rattle.std.proofs.Common.{◌≡◌, ℕ, ◌+◌, Bool, true, false, not, cond, ◌&&◌, nat_le, List, [], ◌∷◌, ◌++◌, Option, Some, None, is_some, refl, zero-add, sym, ap, subst, ◌∙◌, ⊎_elim}
 use Rattle.std.specs.List.{list_all}
 use Rattle.std.specs.Option.{option_and_then}
 use Rattle.std.specs.Str.{bytes_eq}
 use Rattle.std.proofs.lemmas.Bool.{cases_Bool, and_parts, not-true, false≢true, true≢false}
 use Rattle.std.proofs.lemmas.List.Sums.{sum_by-cons}
 use Rattle.std.proofs.lemmas.Slice.Eq.{bytes_eq-Decides}
-use Rattle.bats_words.specs.WordItems.{KnownNames, Item, is_among, is_value_word, items_of, with_item, read_items, come_once, times_named, value_of, is_there}
-use Rattle.bats_words.specs.WordLookup.{are_names, word_after, times}
+use Rattle.bats_words.specs.WordItems.{KnownNames, Item, is_among, is_value_word, items_of, with_item, read_items, come_once, times_named}
+use Rattle.bats_words.specs.WordLookup.{are_names, times}
 use Rattle.bats_words.proofs.ListTests.{list_all-append, list_all-same}
 use Rattle.bats_words.proofs.WordSplits.{items_of-flag, items_of-option, items_of-last, items_of-refused, items_of-nil}
 
@@ -17,7 +17,7 @@ use Rattle.bats_words.proofs.WordSplits.{items_of-flag, items_of-option, items_o
 pub record ByItems (known : KnownNames) (P : List (List ℕ) → List Item → Type 0) : Type 0 where
   pub none : P [] []
   pub flag : (word : List ℕ) (rest : List (List ℕ)) (items : List Item) → is_among known.flags word ≡ true → P rest items → P (word ∷ rest) (record { name = word; value = None } ∷ items)
-  pub option : (word next : List ℕ) (rest : List (List ℕ)) (items : List Item) → is_among known.flags word ≡ false → is_value_word next ≡ true → P rest items → P (word ∷ next ∷ rest) (record { name = word; value = Some next } ∷ items)
+  pub option : (word next : List ℕ) (rest : List (List ℕ)) (items : List Item) → is_among known.flags word ≡ false → is_among known.options word ≡ true → is_value_word next ≡ true → P rest items → P (word ∷ next ∷ rest) (record { name = word; value = Some next } ∷ items)
 
 -- what stands behind the item in front
 behind : (name : List ℕ) (value : Option (List ℕ)) (given : Option (List Item)) (items : List Item) → with_item name value given ≡ Some items → (rest : List Item) × (given ≡ Some rest) × (record { name = name; value = value } ∷ rest ≡ items)
@@ -33,7 +33,7 @@ along-option : (known : KnownNames) (P : List (List ℕ) → List Item → Type 
 along-option known P steps word next rest items on fails holds e =
     let parts = and_parts (is_among known.options word) (is_value_word next) holds in
     let b = behind word (Some next) (items_of known rest) items (sym (items_of-option known word next rest fails parts.0 parts.1) ∙ e) in
-    subst (λ (found : List Item). P (word ∷ next ∷ rest) found) b.2 (steps.option word next rest b.0 fails parts.1 (on b.0 b.1))
+    subst (λ (found : List Item). P (word ∷ next ∷ rest) found) b.2 (steps.option word next rest b.0 fails parts.0 parts.1 (on b.0 b.1))
 
 nothing : {items : List Item} (o : Option (List Item)) → o ≡ None → o ≡ Some items → ⊥
 nothing o e d = cc
@@ -67,18 +67,10 @@ value_is_none name next fails holds =
     (λ e. e)
     (cases_Bool (bytes_eq next name))
 
-pub is_there-items : (known : KnownNames) (name : List ℕ) → is_value_word name ≡ false → (words : List (List ℕ)) (items : List Item) → items_of known words ≡ Some items → is_among words name ≡ is_there name items
-is_there-items known name fails = by_items known (λ words items. is_among words name ≡ is_there name items) (record {
-  none = refl;
-  flag = λ word rest items holds on. ap (λ b. bytes_eq word name || b) on;
-  option = λ word next rest items none holds on.
-      ap (λ b. bytes_eq word name || (b || is_among rest name)) (value_is_none name next fails holds) ∙ ap (λ b. bytes_eq word name || b) on;
-})
-
 times-cons : (name word : List ℕ) (words : List (List ℕ)) → times name (word ∷ words) ≡ cond (bytes_eq word name) 1 0 + times name words
 times-cons name word words = sum_by-cons (λ word. cond (bytes_eq word name) 1 0) word words
 
-times_named-cons : (name : List ℕ) (item : Item) (items : List Item) → times_named name (item ∷ items) ≡ cond (bytes_eq item.name name) 1 0 + times_named name items
+pub times_named-cons : (name : List ℕ) (item : Item) (items : List Item) → times_named name (item ∷ items) ≡ cond (bytes_eq item.name name) 1 0 + times_named name items
 times_named-cons name item items = sum_by-cons (λ (item : Item). cond (bytes_eq item.name name) 1 0) item items
 
 pub times-items : (known : KnownNames) (name : List ℕ) → is_value_word name ≡ false → (words : List (List ℕ)) (items : List Item) → items_of known words ≡ Some items → times name words ≡ times_named name items
@@ -87,39 +79,19 @@ times-items known name fails = by_items known (λ words items. times name words 
   flag = λ word rest items holds on.
       times-cons name word rest ∙ ap (λ n. cond (bytes_eq word name) 1 0 + n) on
       ∙ sym (times_named-cons name (record { name = word; value = None }) items);
-  option = λ word next rest items none holds on.
+  option = λ word next rest items none among holds on.
       times-cons name word (next ∷ rest)
       ∙ ap (λ n. cond (bytes_eq word name) 1 0 + n) (times-cons name next rest ∙ ap (λ b. cond b 1 0 + times name rest) (value_is_none name next fails holds) ∙ zero-add (times name rest) ∙ on)
       ∙ sym (times_named-cons name (record { name = word; value = Some next }) items);
 })
 
 -- a flag is no option
-flag_is_other : (known : KnownNames) (name word : List ℕ) → is_among known.flags name ≡ false → is_among known.flags word ≡ true → bytes_eq word name ≡ false
+pub flag_is_other : (known : KnownNames) (name word : List ℕ) → is_among known.flags name ≡ false → is_among known.flags word ≡ true → bytes_eq word name ≡ false
 flag_is_other known name word only flag =
     ⊎_elim
     (λ same. absurd (true≢false (sym flag ∙ ap (is_among known.flags) ((bytes_eq-Decides word name).0 same) ∙ only)))
     (λ e. e)
     (cases_Bool (bytes_eq word name))
-
--- one step of the search for an option's value
-after_other : (name word : List ℕ) (rest : List (List ℕ)) (items : List Item) → bytes_eq word name ≡ false → word_after name rest ≡ value_of name items → word_after name (word ∷ rest) ≡ value_of name (record { name = word; value = None } ∷ items)
-unfolding value_of
-after_other name word rest items other on = rw other on
-
-after_pair : (name word next : List ℕ) (rest : List (List ℕ)) (items : List Item) → bytes_eq next name ≡ false → word_after name rest ≡ value_of name items → word_after name (word ∷ next ∷ rest) ≡ value_of name (record { name = word; value = Some next } ∷ items)
-unfolding value_of
-after_pair name word next rest items other on = ap (λ (found : Option (List ℕ)). cond (bytes_eq word name) (Some next) found) (rw other on)
-
-at_nil : (name : List ℕ) → word_after name [] ≡ value_of name []
-unfolding value_of
-at_nil name = refl
-
-pub value_of-items : (known : KnownNames) (name : List ℕ) → is_among known.flags name ≡ false → is_value_word name ≡ false → (words : List (List ℕ)) (items : List Item) → items_of known words ≡ Some items → word_after name words ≡ value_of name items
-value_of-items known name only fails = by_items known (λ words items. word_after name words ≡ value_of name items) (record {
-  none = at_nil name;
-  flag = λ word rest items holds on. after_other name word rest items (flag_is_other known name word only holds) on;
-  option = λ word next rest items none holds on. after_pair name word next rest items (value_is_none name next fails holds) on;
-})
 
 -- ---- no name twice
 
@@ -165,3 +137,19 @@ kept known (Some found) items e = if_some (come_once known found) found items e
 pub items_of-read : (known : KnownNames) (words : List (List ℕ)) (items : List Item) → read_items known words ≡ Some items → items_of known words ≡ Some items
 unfolding read_items
 items_of-read known words items e = kept known (items_of known words) items e
+
+-- and none of them comes twice
+once_if : (known : KnownNames) (found : List Item) (items : List Item) → cond (come_once known found) (Some found) None ≡ Some items → come_once known items ≡ true
+once_if known found items e = go (come_once known found) refl e
+  where
+    go : (b : Bool) → come_once known found ≡ b → cond b (Some found) None ≡ Some items → come_once known items ≡ true
+    go true is e = let same : found ≡ items = cc in ap (come_once known) (sym same) ∙ is
+    go false is e = absurd cc
+
+once_of : (known : KnownNames) (o : Option (List Item)) (items : List Item) → option_and_then (λ found. cond (come_once known found) (Some found) None) o ≡ Some items → come_once known items ≡ true
+once_of known None items e = absurd cc
+once_of known (Some found) items e = once_if known found items e
+
+pub come_once-read : (known : KnownNames) (words : List (List ℕ)) (items : List Item) → read_items known words ≡ Some items → come_once known items ≡ true
+unfolding read_items
+come_once-read known words items e = once_of known (items_of known words) items e

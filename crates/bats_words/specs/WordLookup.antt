@@ -1,5 +1,5 @@
--- What the code finds among the words themselves. Where they are items, it is what stands among the items.
-use Rattle.std.specs.Prelude.{ℕ, List, [], ◌∷◌, Option, Some, None, ◌++◌, map, Bool, not, nat_le, count_by, if◌then◌else◌}
+-- What the code tests of the words themselves. Where they are items, it is what holds of the items.
+use Rattle.std.specs.Prelude.{ℕ, List, ◌++◌, map, Bool, not, nat_le, count_by}
 use Rattle.std.specs.Str.{bytes_eq}
 use Rattle.std.specs.List.{list_all}
 use denote.Ref.{Bor}
@@ -17,16 +17,6 @@ known_names names = record { options = texts_of names.options.now; flags = texts
 -- whether no known name may be taken for a value word
 abbrev pub are_names : KnownNames → Bool
 are_names known = list_all (λ name. not (is_value_word name)) (known.options ++ known.flags)
-
--- the first of the words
-abbrev pub first_word : List (List ℕ) → Option (List ℕ)
-first_word [] = None
-first_word (word ∷ words) = Some word
-
--- the word after the first that is the name
-abbrev pub word_after : List ℕ → List (List ℕ) → Option (List ℕ)
-word_after name [] = None
-word_after name (word ∷ words) = if bytes_eq word name then first_word words else word_after name words
 
 -- how many of the words are the name
 abbrev pub times : List ℕ → List (List ℕ) → ℕ

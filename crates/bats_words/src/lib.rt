@@ -5,8 +5,10 @@ mod command;
 mod help;
 mod source_options;
 mod words;
+mod words_end;
 
 pub use command::Command;
 pub use help::help_text;
 pub use source_options::SourceOptions;
 pub use words::parse;
+pub use words_end::WordsEnd;

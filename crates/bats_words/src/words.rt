@@ -1,36 +1,44 @@
 //! Which command the words of a command line are.
-ghost use Rattle.std.specs.Prelude.{◌≡◌, map, string_bytes, codes, IfSome};
-ghost use Rattle.bats_words.specs.Options.{InRanges};
-ghost use Rattle.bats_words.specs.WordItems.{is_among};
-ghost use Rattle.bats_words.specs.WordLookup.{word_after};
+ghost use Rattle.std.specs.Prelude.{◌≡◌, map, string_bytes, codes, IfOk, option_and_then};
 ghost use Rattle.bats_words.specs.WordValues.{number_in};
-ghost use Rattle.bats_words.specs.Words.{command_of, read_by, read_or, source_of, source_names, relay_of, relay_names};
+ghost use Rattle.bats_words.specs.Answer.{IsAnswer};
+ghost use Rattle.bats_words.specs.Options.{InRanges};
+ghost use Rattle.bats_words.specs.Words.{command_of, read_by, source_of, source_names, relay_of, relay_names};
 ghost use Rattle.bats_words.specs.Words.{sink_of, sink_names, check_of, check_names, show_of, show_names};
 ghost use Rattle.bats_words.specs.Words.{help_of, help_names};
+ghost use Rattle.bats_words.specs.steps.Matched.{IsFlag, is_set, value_in, source_given, sink_given, check_given};
 
 mod items;
 mod options;
+mod rules;
 mod values;
 
 use crate::command::Command;
-use crate::words::items::{Names, are_read, has};
-use crate::words::options::{number, number_or, rule, seed};
+use crate::words::items::{Names, are_read};
+use crate::words::options::{flag, number, rule, seed};
+use crate::words::rules::{check_rules, relay_rules, sink_rules, source_rules};
+use crate::words_end::WordsEnd;
+use clap::ArgMatches;
+use std::alloc::Global;
 
 /// The command that the words after the program's name are, if they are one. Its values stand in their ranges.
 #[tactic(auto, unfolding(crate::specs::Words::command_of))]
-pub fn parse(words: &Vec<String>) -> Option<Command>
-    ensures value { result ≡ command_of (map string_bytes words.now.items) }
-    ensures ranges { IfSome result InRanges }
+pub fn parse(words: &Vec<String>) -> Result<Command, WordsEnd>
+    ensures value { IsAnswer (command_of (map string_bytes words.now.items)) result }
+    ensures ranges { IfOk result InRanges }
 {
-    let (name, rest) = words.split_first()?;
+    let alloc = *words.allocator();
+    let Some((name, rest)) = words.split_first() else {
+        return Err(WordsEnd::Usage);
+    };
     match name.as_str() {
-        "source" => source(rest),
-        "relay" => relay(rest),
-        "sink" => sink(rest),
-        "check" => check(rest),
+        "source" => source(alloc, rest),
+        "relay" => relay(alloc, rest),
+        "sink" => sink(alloc, rest),
+        "check" => check(alloc, rest),
         "show" => show(rest),
         "help" => help(rest),
-        _ => None,
+        _ => Err(WordsEnd::Usage),
     }
 }
 
@@ -40,32 +48,33 @@ const SOURCE: Names = Names {
     flags: &["--systematic"],
 };
 
-fn source(words: &[String]) -> Option<Command>
-    ensures { result ≡ read_by source_names source_of (map string_bytes words.now) }
+fn source(alloc: Global, words: &[String]) -> Result<Command, WordsEnd>
+    ensures { IsAnswer (read_by source_names source_of (map string_bytes words.now)) result }
 {
     if !are_read(&SOURCE, words) {
-        return None;
+        return Err(WordsEnd::Usage);
     }
-    source_of(words)
+    let matches = source_rules(alloc)?.try_get_matches_from(words)?;
+    source_of(&matches).ok_or(WordsEnd::Usage)
 }
 
-// The command of words that are options and flags of `source`, none of them twice.
-#[tactic(auto, unfolding(crate::specs::Words::source_of))]
-fn source_of(words: &[String]) -> Option<Command>
-    ensures { let texts = map string_bytes words.now in
-        result ≡ source_of (λ name. word_after name texts) (is_among texts) }
+// The command `source` of what was found.
+#[tactic(auto, unfolding(crate::specs::steps::Matched::source_given))]
+fn source_of(matches: &ArgMatches) -> Option<Command>
+    requires { IsFlag matches.now (codes "--systematic") }
+    ensures { result ≡ source_given (value_in matches.now) (is_set matches.now) }
 {
-    let m = number("--m", words, 1, 32)?;
-    let t = number("--t", words, 1, 2048)?;
-    let seed = seed("--seed", words)?;
-    let batches = number("--batches", words, 0, 32767)?;
-    let table = number_or(0, "--table", words, 0, 1)?;
-    let first = number_or(0, "--from", words, 0, 4_000_000_000)?;
+    let m = number(matches, "--m", 1, 32)?;
+    let t = number(matches, "--t", 1, 2048)?;
+    let seed = seed(matches, "--seed")?;
+    let batches = number(matches, "--batches", 0, 32767)?;
+    let table = number(matches, "--table", 0, 1)?;
+    let first = number(matches, "--from", 0, 4_000_000_000)?;
     Some(Command::Source {
         m: m as u8,
         t: t as u16,
         table: table as u8,
-        systematic: has("--systematic", words),
+        systematic: flag(matches, "--systematic"),
         seed,
         first: first as u32,
         batches: batches as u32,
@@ -78,24 +87,24 @@ const RELAY: Names = Names {
     flags: &[],
 };
 
-fn relay(words: &[String]) -> Option<Command>
-    ensures { result ≡ read_by relay_names relay_of (map string_bytes words.now) }
+fn relay(alloc: Global, words: &[String]) -> Result<Command, WordsEnd>
+    ensures { IsAnswer (read_by relay_names relay_of (map string_bytes words.now)) result }
 {
     if !are_read(&RELAY, words) {
-        return None;
+        return Err(WordsEnd::Usage);
     }
-    relay_of(words)
+    let matches = relay_rules(alloc)?.try_get_matches_from(words)?;
+    relay_of(&matches).ok_or(WordsEnd::Usage)
 }
 
-// The command of words that are options of `relay`, none of them twice.
+// The command `relay` of what was found.
 #[tactic(auto, unfolding(crate::specs::Words::relay_of))]
-fn relay_of(words: &[String]) -> Option<Command>
-    ensures { let texts = map string_bytes words.now in
-        result ≡ relay_of (λ name. word_after name texts) (is_among texts) }
+fn relay_of(matches: &ArgMatches) -> Option<Command>
+    ensures { result ≡ relay_of (value_in matches.now) (is_set matches.now) }
 {
-    let seed = seed("--seed", words)?;
-    let extra = rule("--rule", words)?;
-    let count = number("--count", words, 0, 64)?;
+    let seed = seed(matches, "--seed")?;
+    let extra = rule(matches, "--rule")?;
+    let count = number(matches, "--count", 0, 64)?;
     Some(Command::Relay {
         seed,
         extra,
@@ -103,11 +112,11 @@ fn relay_of(words: &[String]) -> Option<Command>
     })
 }
 
-// The number of workers, 1 where the option is not there.
-fn workers(words: &[String]) -> Option<u32>
-    ensures { result ≡ read_or 1 (number_in 1 64) (word_after (codes "--workers") (map string_bytes words.now)) }
+// The number of workers.
+fn workers(matches: &ArgMatches) -> Option<u32>
+    ensures { result ≡ option_and_then (number_in 1 64) (value_in matches.now (codes "--workers")) }
 {
-    let workers = number_or(1, "--workers", words, 1, 64)?;
+    let workers = number(matches, "--workers", 1, 64)?;
     Some(workers as u32)
 }
 
@@ -117,25 +126,26 @@ const SINK: Names = Names {
     flags: &["--both"],
 };
 
-fn sink(words: &[String]) -> Option<Command>
-    ensures { result ≡ read_by sink_names sink_of (map string_bytes words.now) }
+fn sink(alloc: Global, words: &[String]) -> Result<Command, WordsEnd>
+    ensures { IsAnswer (read_by sink_names sink_of (map string_bytes words.now)) result }
 {
     if !are_read(&SINK, words) {
-        return None;
+        return Err(WordsEnd::Usage);
     }
-    sink_of(words)
+    let matches = sink_rules(alloc)?.try_get_matches_from(words)?;
+    sink_of(&matches).ok_or(WordsEnd::Usage)
 }
 
-// The command of words that are options and flags of `sink`, none of them twice.
-#[tactic(auto, unfolding(crate::specs::Words::sink_of))]
-fn sink_of(words: &[String]) -> Option<Command>
-    ensures { let texts = map string_bytes words.now in
-        result ≡ sink_of (λ name. word_after name texts) (is_among texts) }
+// The command `sink` of what was found.
+#[tactic(auto, unfolding(crate::specs::steps::Matched::sink_given))]
+fn sink_of(matches: &ArgMatches) -> Option<Command>
+    requires { IsFlag matches.now (codes "--both") }
+    ensures { result ≡ sink_given (value_in matches.now) (is_set matches.now) }
 {
-    let workers = workers(words)?;
+    let workers = workers(matches)?;
     Some(Command::Sink {
         workers,
-        both: has("--both", words),
+        both: flag(matches, "--both"),
     })
 }
 
@@ -145,22 +155,22 @@ const CHECK: Names = Names {
     flags: &[],
 };
 
-fn check(words: &[String]) -> Option<Command>
-    ensures { result ≡ read_by check_names check_of (map string_bytes words.now) }
+fn check(alloc: Global, words: &[String]) -> Result<Command, WordsEnd>
+    ensures { IsAnswer (read_by check_names check_of (map string_bytes words.now)) result }
 {
     if !are_read(&CHECK, words) {
-        return None;
+        return Err(WordsEnd::Usage);
     }
-    check_of(words)
+    let matches = check_rules(alloc)?.try_get_matches_from(words)?;
+    check_of(&matches).ok_or(WordsEnd::Usage)
 }
 
-// The command of words that are options of `check`, none of them twice.
-#[tactic(auto, unfolding(crate::specs::Words::check_of))]
-fn check_of(words: &[String]) -> Option<Command>
-    ensures { let texts = map string_bytes words.now in
-        result ≡ check_of (λ name. word_after name texts) (is_among texts) }
+// The command `check` of what was found.
+#[tactic(auto, unfolding(crate::specs::steps::Matched::check_given))]
+fn check_of(matches: &ArgMatches) -> Option<Command>
+    ensures { result ≡ check_given (value_in matches.now) (is_set matches.now) }
 {
-    let workers = workers(words)?;
+    let workers = workers(matches)?;
     Some(Command::Check { workers })
 }
 
@@ -170,13 +180,13 @@ const SHOW: Names = Names {
     flags: &[],
 };
 
-fn show(words: &[String]) -> Option<Command>
-    ensures { result ≡ read_by show_names show_of (map string_bytes words.now) }
+fn show(words: &[String]) -> Result<Command, WordsEnd>
+    ensures { IsAnswer (read_by show_names show_of (map string_bytes words.now)) result }
 {
     if !are_read(&SHOW, words) {
-        return None;
+        return Err(WordsEnd::Usage);
     }
-    Some(Command::Show)
+    Ok(Command::Show)
 }
 
 // `help` has no names.
@@ -185,13 +195,13 @@ const HELP: Names = Names {
     flags: &[],
 };
 
-fn help(words: &[String]) -> Option<Command>
-    ensures { result ≡ read_by help_names help_of (map string_bytes words.now) }
+fn help(words: &[String]) -> Result<Command, WordsEnd>
+    ensures { IsAnswer (read_by help_names help_of (map string_bytes words.now)) result }
 {
     if !are_read(&HELP, words) {
-        return None;
+        return Err(WordsEnd::Usage);
     }
-    Some(Command::Help)
+    Ok(Command::Help)
 }
 
 #[cfg(test)]
@@ -214,7 +224,7 @@ mod tests {
         Ok(words)
     }
 
-    fn parsed(rt: &impl AllocGlobal, line: &str) -> Result<Option<Command>, AllocError> {
+    fn parsed(rt: &impl AllocGlobal, line: &str) -> Result<Result<Command, WordsEnd>, AllocError> {
         Ok(parse(&words_of(rt.alloc(), line)?))
     }
 
@@ -273,7 +283,7 @@ mod tests {
                 highest,
             ),
         ] {
-            assert_eq!(rt; parsed(&rt, line)?, Some(want), "at {line}");
+            assert_eq!(rt; parsed(&rt, line)?, Ok(want), "at {line}");
         }
         Ok(())
     }
@@ -289,7 +299,7 @@ mod tests {
         ] {
             assert_eq!(rt;
                 parsed(&rt, line)?,
-                Some(Command::Sink { workers, both }),
+                Ok(Command::Sink { workers, both }),
                 "at {line}"
             );
         }
@@ -307,7 +317,7 @@ mod tests {
         ] {
             let seed = SEED;
             let want = Command::Relay { seed, extra, count };
-            assert_eq!(rt; parsed(&rt, line)?, Some(want), "at {line}");
+            assert_eq!(rt; parsed(&rt, line)?, Ok(want), "at {line}");
         }
         for (line, workers) in [
             ("check", 1),
@@ -316,18 +326,18 @@ mod tests {
         ] {
             assert_eq!(rt;
                 parsed(&rt, line)?,
-                Some(Command::Check { workers }),
+                Ok(Command::Check { workers }),
                 "at {line}"
             );
         }
-        assert_eq!(rt; parsed(&rt, "show")?, Some(Command::Show));
-        assert_eq!(rt; parsed(&rt, "help")?, Some(Command::Help));
+        assert_eq!(rt; parsed(&rt, "show")?, Ok(Command::Show));
+        assert_eq!(rt; parsed(&rt, "help")?, Ok(Command::Help));
         Ok(())
     }
 
     #[test]
     fn refuses_other_words(rt: HostRuntime) -> Result<(), Fail> {
-        assert_eq!(rt; parse(&Vec::new(rt.alloc())), None);
+        assert_eq!(rt; parse(&Vec::new(rt.alloc())), Err(WordsEnd::Usage));
         for line in [
             "",
             "source",
@@ -419,7 +429,7 @@ mod tests {
             "help --help",
             "help ",
         ] {
-            assert_eq!(rt; parsed(&rt, line)?, None, "at {line}");
+            assert_eq!(rt; parsed(&rt, line)?, Err(WordsEnd::Usage), "at {line}");
         }
         Ok(())
     }

@@ -1,8 +1,8 @@
 //! The options and flags among the words that follow a command's name.
-ghost use Rattle.std.specs.Prelude.{◌≡◌, map, is_some, IsTrue, string_bytes, option_copied};
+ghost use Rattle.std.specs.Prelude.{◌≡◌, map, is_some, IsTrue, string_bytes};
 ghost use Rattle.bats_words.specs.WordItems.{is_among, is_value_word, items_of, read_items};
 ghost use Rattle.bats_words.specs.WordLookup.{are_names, come_once_among, known_names, texts_of};
-ghost use Rattle.bats_words.specs.WordLookup.{times, word_after};
+ghost use Rattle.bats_words.specs.WordLookup.{times};
 
 /// The names that a command knows.
 pub(crate) struct Names {
@@ -18,13 +18,6 @@ pub(crate) fn are_read(names: &Names, words: &[String]) -> bool
     ensures { result ≡ is_some (read_items (known_names names.now) (map string_bytes words.now)) }
 {
     are_items(names, words) && come_once(names.options, words) && come_once(names.flags, words)
-}
-
-/// Whether `name` is one of the words.
-pub(crate) fn has(name: &str, words: &[String]) -> bool
-    ensures { result ≡ is_among (map string_bytes words.now) name.now }
-{
-    words.iter().any(|word| word.as_str() == name)
 }
 
 /// Whether the words are options with their values, and flags.
@@ -51,19 +44,6 @@ fn come_once(names: &[&str], words: &[String]) -> bool
     ensures { result ≡ come_once_among (texts_of names.now) (map string_bytes words.now) }
 {
     names.iter().all(|name| times(name, words) <= 1)
-}
-
-/// The word after the first that is `name`.
-pub(crate) fn word_after<'a>(name: &str, words: &'a [String]) -> Option<&'a str>
-    ensures { option_copied result ≡ word_after name.now (map string_bytes words.now) }
-{
-    let mut left = words.iter();
-    while let Some(word) = left.next() {
-        if word.as_str() == name {
-            return Some(left.next()?.as_str());
-        }
-    }
-    None
 }
 
 /// How many of the words are `name`.

@@ -1,52 +1,37 @@
-//! The values of options, read among the words.
-ghost use Rattle.std.specs.Prelude.{◌≡◌, ◌≤◌, map, string_bytes, IfSome, option_and_then};
-ghost use Rattle.bats_words.specs.WordLookup.{word_after};
+//! The values of options, among what `clap` found.
+ghost use Rattle.std.specs.Prelude.{◌≡◌, ◌≤◌, IfSome, option_and_then};
 ghost use Rattle.bats_words.specs.WordValues.{number_in, rule_of, seed_of};
-ghost use Rattle.bats_words.specs.Words.{read_or};
+ghost use Rattle.bats_words.specs.steps.Matched.{IsFlag, is_set, value_in};
 
-use crate::words::items::word_after;
 use crate::words::values::{number_in, rule_of, seed_of};
+use clap::ArgMatches;
 
-/// The number from `low` to `high` that stands after `name`.
-pub(crate) fn number(name: &str, words: &[String], low: u64, high: u64) -> Option<u64>
-    ensures value { let word = word_after name.now (map string_bytes words.now) in
-        result ≡ option_and_then (number_in low high) word }
+/// The number from `low` to `high` that the option `name` has.
+pub(crate) fn number(matches: &ArgMatches, name: &str, low: u64, high: u64) -> Option<u64>
+    ensures value { result ≡ option_and_then (number_in low high) (value_in matches.now name.now) }
     ensures within { IfSome result (λ n. n ≤ high) }
 {
-    number_in(word_after(name, words)?, low, high)
+    number_in(matches.get_str(name)?, low, high)
 }
 
-/// The number from `low` to `high` that stands after `name`, or `default` where `name` is not there.
-pub(crate) fn number_or(
-    default: u64,
-    name: &str,
-    words: &[String],
-    low: u64,
-    high: u64,
-) -> Option<u64>
-    requires { default ≤ high }
-    ensures value { let word = word_after name.now (map string_bytes words.now) in
-        result ≡ read_or default (number_in low high) word }
-    ensures within { IfSome result (λ n. n ≤ high) }
+/// The seed that the option `name` has.
+pub(crate) fn seed(matches: &ArgMatches, name: &str) -> Option<[u8; 16]>
+    ensures { result ≡ option_and_then seed_of (value_in matches.now name.now) }
 {
-    match word_after(name, words) {
-        None => Some(default),
-        Some(word) => number_in(word, low, high),
-    }
+    seed_of(matches.get_str(name)?)
 }
 
-/// The seed that stands after `name`.
-pub(crate) fn seed(name: &str, words: &[String]) -> Option<[u8; 16]>
-    ensures { let word = word_after name.now (map string_bytes words.now) in
-        result ≡ option_and_then seed_of word }
+/// Whether the rule that the option `name` has is `extra`, and not `fixed`.
+pub(crate) fn rule(matches: &ArgMatches, name: &str) -> Option<bool>
+    ensures { result ≡ option_and_then rule_of (value_in matches.now name.now) }
 {
-    seed_of(word_after(name, words)?)
+    rule_of(matches.get_str(name)?)
 }
 
-/// Whether the rule that stands after `name` is `extra`, and not `fixed`.
-pub(crate) fn rule(name: &str, words: &[String]) -> Option<bool>
-    ensures { let word = word_after name.now (map string_bytes words.now) in
-        result ≡ option_and_then rule_of word }
+/// Whether the flag `name` is there.
+pub(crate) fn flag(matches: &ArgMatches, name: &str) -> bool
+    requires { IsFlag matches.now name.now }
+    ensures { result ≡ is_set matches.now name.now }
 {
-    rule_of(word_after(name, words)?)
+    matches.get_flag(name)
 }

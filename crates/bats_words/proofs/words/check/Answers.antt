@@ -1,13 +1,29 @@
-use Rattle.std.proofs.Common.{string_bytes, map, sym, ◌∙◌}
+use Rattle.std.proofs.Common.{string_bytes, map, sym, ap, subst, ◌∙◌}
+use Rattle.clap.specs.Simple.{App, HasMatchesOf}
+use Rattle.clap.specs.Takes.{takes}
+use Rattle.bats_words.specs.Answer.{IsAnswer}
+use Rattle.bats_words.specs.WordItems.{read_items}
 use Rattle.bats_words.specs.Words.{check_of, check_names}
-use Rattle.bats_words.proofs.CommandWords.{read_by-none, read_by-some, check_of-items}
+use Rattle.bats_words.specs.steps.Rules.{check_app}
+use Rattle.bats_words.proofs.WordLookups.{some_of}
+use Rattle.bats_words.proofs.CommandWords.{check_shape, check-fits, check_of-items, finds-items, given_answer, memory_answer, read_by-items, read_by-none, takes-words}
 use Rattle.bats_words.proofs.words.check.Goals as goal
 
 pub returns-then-not-are_read : goal.returns-then-not-are_read
-returns-then-not-are_read c =
-    read_by-none check_names check_of (map string_bytes c.args.words.now) (sym c.are_read.ensures ∙ c.if-not-are_read.true)
+returns-then-not-are_read c = read_by-none check_names check_of (map string_bytes c.args.words.now) (sym c.are_read.ensures ∙ c.if-not-are_read.true)
+
+pub returns-in_err-matches : goal.returns-in_err-matches
+returns-in_err-matches c =
+    let words = map string_bytes c.args.words.now in
+    let read = sym c.are_read.ensures ∙ c.if-not-are_read.false in
+    let taken = takes-words check_names check_app check_shape check-fits words read in
+    memory_answer _ _ _ (c.in_err-matches.ensures.passes (ap (λ (app : App). takes app words) c.in_ok-check_rules.ensures ∙ taken)) c.from_residual-in_err-matches.ensures.1
 
 pub returns : goal.returns
 returns c =
-    c.check_of.ensures
-    ∙ read_by-some check_names check_of check_of-items (map string_bytes c.args.words.now) (sym c.are_read.ensures ∙ c.if-not-are_read.false)
+    let words = map string_bytes c.args.words.now in
+    let r = some_of (read_items check_names words) (sym c.are_read.ensures ∙ c.if-not-are_read.false) in
+    let has = subst (λ (app : App). HasMatchesOf app words c.in_ok-matches.matches) c.in_ok-check_rules.ensures c.in_ok-matches.ensures.matches in
+    let finds = finds-items check_names check_app check_shape check-fits words r.0 r.1 c.in_ok-matches.matches has in
+    let same = read_by-items check_names check_of words r.0 r.1 ∙ sym (check_of-items c.in_ok-matches.matches r.0 finds) ∙ sym c.check_of.ensures in
+    subst (IsAnswer _) (sym c.ok_or.ensures.value) (given_answer _ _ same)
