@@ -1,3 +1,10 @@
+pub mod PartLemmas
+pub mod LocalLemmas
+pub mod WorkLemmas
+pub mod StepLemmas
+pub mod PeeledLemmas
+pub mod PlaceSums
+pub mod FixingLemmas
 pub mod SymbolSets
 pub mod FixedContributors
 pub mod StuckSets
@@ -6,3 +13,11 @@ pub mod InactiveLists
 pub mod FewPackets
 pub mod HeldSteps
 pub mod InactiveEntries
+pub mod Marking
+pub mod Counting
+pub mod Walking
+pub mod Searching
+pub mod Reached
+pub mod Ordering
+pub mod Testing
+pub mod LargestDegrees

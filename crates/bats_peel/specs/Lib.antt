@@ -1,1 +1,3 @@
+pub mod Peeled
 pub mod OneSet
+pub mod steps

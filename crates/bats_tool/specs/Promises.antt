@@ -1,10 +1,11 @@
 -- What each command promises.
-use Rattle.std.specs.Prelude.{Option, None, Some, codes}
+use Rattle.std.specs.Prelude.{[], Option, None, Some, codes}
 use Rattle.tool_run.specs.declared.status.Status.TheVariants as statuses
 use Rattle.tool_run.specs.Ending.{Ending, refusal, untouched}
 use Rattle.tool_run.specs.Promise.{Promise, reads_nothing}
 use Rattle.bats_words.specs.declared.command.Command.{Command}
 use Rattle.bats_words.specs.declared.command.Command.TheVariants as commands
+use Rattle.bats_words.specs.Help.{help_text}
 use Rattle.bats_words.specs.Options.{source_options}
 use Rattle.tool_source.specs.Source.{source_promise}
 use Rattle.tool_sink.specs.Sink.{sink_promise}
@@ -16,6 +17,10 @@ use Rattle.tool_stream.specs.Relay.{relay_promise}
 abbrev pub usage_ending : Ending
 usage_ending = refusal statuses.Usage (codes "bats: usage\n") untouched
 
+-- how `help` ends: nothing is read, and there is no notes line
+abbrev pub help_ending : Ending
+help_ending = record { status = statuses.Done; output = help_text; line = []; reach = untouched; work = None }
+
 -- the promise of words, as far as they are a command
 abbrev pub promise_of : Option Command → Promise
 promise_of None = reads_nothing usage_ending
@@ -25,3 +30,4 @@ promise_of (Some (commands.Relay seed extra count)) = relay_promise seed extra c
 promise_of (Some (commands.Sink workers both)) = sink_promise both
 promise_of (Some (commands.Check workers)) = check_promise
 promise_of (Some commands.Show) = show_promise
+promise_of (Some commands.Help) = reads_nothing help_ending

@@ -4,15 +4,16 @@ ghost use Rattle.tool_run.specs.Promise.{reads_nothing};
 ghost use Rattle.tool_run.specs.Run.{RunsBy};
 ghost use Rattle.tool_run.specs.Streams.{Ends};
 ghost use Rattle.bats_words.specs.Words.{command_of};
-ghost use Rattle.bats_tool.specs.Promises.{promise_of, usage_ending};
+ghost use Rattle.bats_io.specs.Streams.{InputState};
+ghost use Rattle.bats_tool.specs.Promises.{help_ending, promise_of, usage_ending};
 
 use bats_io::{Sink, Source};
-use bats_words::{Command, SourceOptions, parse};
+use bats_words::{Command, SourceOptions, WordsEnd, help_text, parse};
 use std::alloc::Global;
 use std::sync::ledger::Ledger;
 use std::thread::Threads;
 use tool_records::Counters;
-use tool_run::{Finish, Status, Stop, conclude, refuse};
+use tool_run::{Finish, Status, Stop, conclude, refuse, write_bytes};
 use tool_sink::{check, sink};
 use tool_source::source;
 use tool_stream::{relay, show};
@@ -22,6 +23,20 @@ fn usage(alloc: Global) -> Result<Finish, Stop>
     ensures { (ends : Ends) → AttemptsUncounted (reads_nothing usage_ending) ends ends result }
 {
     Ok(refuse(alloc, Status::Usage, "bats: usage\n")?)
+}
+
+// Does `help`: writes its text. Nothing is read.
+fn help<O: Sink>(alloc: Global, output: &mut O) -> Result<Finish, Stop>
+    ensures { (input : InputState) → AttemptsUncounted (reads_nothing help_ending)
+        (record { input = input; output = O.state output.old })
+        (record { input = input; output = O.state output.new })
+        result }
+{
+    write_bytes(output, help_text().as_bytes())?;
+    Ok(Finish {
+        status: Status::Done,
+        line: String::new(alloc),
+    })
 }
 
 // Does what the words ask for, up to the notes line.
@@ -41,7 +56,7 @@ fn attempt<R: Threads + Sync, S: Source, O: Sink, C: Ledger, L: Ledger>(
         result }
 {
     match parse(words) {
-        Some(
+        Ok(
             Command::Source {
                 m,
                 t,
@@ -63,15 +78,17 @@ fn attempt<R: Threads + Sync, S: Source, O: Sink, C: Ledger, L: Ledger>(
             };
             source(alloc, &options, input, output)
         }
-        Some(Command::Relay { seed, extra, count }) => {
+        Ok(Command::Relay { seed, extra, count }) => {
             relay(alloc, seed, extra, count, input, output, counters)
         }
-        Some(Command::Sink { workers, both }) => {
+        Ok(Command::Sink { workers, both }) => {
             sink(rt, alloc, workers, both, input, output, counters)
         }
-        Some(Command::Check { workers }) => check(rt, alloc, workers, input, output, counters),
-        Some(Command::Show) => show(alloc, input, output),
-        None => usage(alloc),
+        Ok(Command::Check { workers }) => check(rt, alloc, workers, input, output, counters),
+        Ok(Command::Show) => show(alloc, input, output),
+        Ok(Command::Help) => help(alloc, output),
+        Err(WordsEnd::Usage) => usage(alloc),
+        Err(WordsEnd::Memory) => Err(Stop::Memory),
     }
 }
 

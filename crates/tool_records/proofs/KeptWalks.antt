@@ -31,7 +31,8 @@ use Rattle.tool_records.specs.ReadsRecords.{ReadsRecords}
 use Rattle.tool_records.specs.Walk.{Gives, GivenSoFar, ReadsLast, Walks, WalksToEnd, WalksToRefusal, WalksToItem, WalksToStop}
 use Rattle.tool_records.specs.steps.Came.{CameAfterFew, EndsFull}
 use Rattle.tool_records.proofs.KeptItems.{ReadsOn-few, MeetsFull-ends, few_before_last}
-use Rattle.tool_records.proofs.WalksRead.{told_items, told_last, any_session, ReadsRecords-items, ReadsRecords-item, ReadsRecords-last}
+use Rattle.tool_run.proofs.AtOnce.{MayStopAtOnce}
+use Rattle.tool_records.proofs.WalksRead.{ReadsRecords-nothing, told_items, told_last, any_session, ReadsRecords-items, ReadsRecords-item, ReadsRecords-last}
 
 -- ---- what any command has done that keeps packets
 
@@ -48,6 +49,10 @@ pub record KeepsFew (session : SessionData) (list : List Item) (start now : Outp
 
 pub keeping_promise-keeps : (ends : List ℕ → Ending → Type 0) → Keeps (keeping_promise ends)
 keeping_promise-keeps ends = record { whole = λ input ending e. IsBegun-whole ends input ending e }
+
+-- it may stop before it has read anything
+pub keeping_promise-at_once : (ends : List ℕ → Ending → Type 0) → MayStopAtOnce (keeping_promise ends)
+keeping_promise-at_once ends = record { reads = λ left. ReadsRecords-nothing takes_few left; partly = λ input. inl refl }
 
 -- few are kept of the items before the next
 few_so_far : (session : Option SessionData) (list : List Item) (o p : OutputState) → GivenSoFar KeepsFew session list o p → AreFew session list

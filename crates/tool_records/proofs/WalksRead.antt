@@ -1,7 +1,7 @@
 -- How far a command has read whose walk ended so.
 use Rattle.std.proofs.Common.{ℕ, ◌≡◌, ◌≤◌, false, List, [], ◌∷◌, ◌++◌, length, Option, None, Some, IsSome, arith, refl, sym, ap, ◌∙◌, subst, append-nil, append_assoc, length-append}
 use Rattle.bats_io.specs.Streams.{IsTold, IsRead}
-use Rattle.bats_io.proofs.ReadLemmas.{IsTold-after, told_or, IsTold-told_or}
+use Rattle.bats_io.proofs.ReadLemmas.{IsRead-nothing, IsTold-after, told_or, IsTold-told_or}
 use Rattle.bats_model.specs.Session.{SessionData, IsSession}
 use Rattle.bats_model.specs.Records.{header_record}
 use Rattle.bats_model.specs.PacketFile.{IsItemAt, BeginsWithHeader, record_of}
@@ -64,6 +64,18 @@ ReadsRecords-items goes_on session list before after on q = record {
   within = q.within;
   stops = stops_within goes_on session list q.front q.begun q.none;
 }
+
+-- nothing, before the first header
+pub ReadsRecords-nothing : (goes_on : SessionData → List Item → Type 0) (left : Option (List ℕ)) → ReadsRecords goes_on left left
+ReadsRecords-nothing goes_on left =
+    ReadsRecords-items goes_on None [] left left tt (record {
+      front = [];
+      begun = [];
+      records = (refl, refl);
+      read = IsRead-nothing left;
+      within = omega arith;
+      none = none_empty None 0;
+    })
 
 -- and one more after which it goes on
 pub ReadsRecords-item : (goes_on : SessionData → List Item → Type 0) (session : SessionData) (list : List Item) (item : Item) (before after : Option (List ℕ))

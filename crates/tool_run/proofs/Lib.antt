@@ -1,4 +1,5 @@
 pub mod Attempts
+pub mod AtOnce
 pub mod Begun
 pub mod FilesRead
 pub mod Outcomes

@@ -1,6 +1,8 @@
 -- The lines of `show`, and parts of them.
 use Rattle.std.proofs.Common.{ℕ, ◌≡◌, ◌+◌, List, [], ◌∷◌, ◌++◌, length, take, Option, None, Some, refl, sym, ap, ◌∙◌, subst, inl, inr, append-nil, append_assoc, length-append}
+use Rattle.tool_run.proofs.AtOnce.{MayStopAtOnce}
 use Rattle.tool_run.proofs.Begun.{front-all, front-take}
+use Rattle.tool_records.proofs.WalksRead.{ReadsRecords-nothing}
 use Rattle.bats_format.proofs.JoinedFiles.{packets_of-append}
 use Rattle.bats_model.specs.Session.{SessionData}
 use Rattle.bats_model.specs.PacketFile.{IsPacketFile, packets_of}
@@ -88,3 +90,7 @@ show_promise-keeps = record {
   whole = λ input ending e.
       subst (λ (x : Ending). AreLinesBegun input x.output) (sym e.ending_is) (whole_lines input e.session e.list e.end e.reading);
 }
+
+-- it may stop before it has read anything
+pub show_promise-at_once : MayStopAtOnce show_promise
+show_promise-at_once = record { reads = λ left. ReadsRecords-nothing takes_all left; partly = λ input. inl refl }
