@@ -76,7 +76,7 @@ fn make_run<R: AllocGlobal + Threads + Sync>(
         most,
         vec![in alloc; fails[0]]?,
     );
-    let mut output = MemSink::with_room(alloc, 1_000_000, most, vec![in alloc; fails[1]]?)?;
+    let mut output = MemSink::with_room(alloc, 1_100_000, most, vec![in alloc; fails[1]]?)?;
     let mut notes = MemSink::with_room(alloc, 1_000, most, vec![in alloc; fails[2]]?)?;
     let status = run_over(rt, alloc, &words, &mut input, &mut output, &mut notes);
     Ok(Ran {

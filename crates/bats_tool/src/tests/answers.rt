@@ -57,7 +57,7 @@ const ANSWERED: [Row; 37] = [
         more: b"",
         status: Status::Done,
         output: b"\x01\x02\x03\x04",
-        notes: "sink: file length=4 packets=2 kept=2\n",
+        notes: "sink: file length=4 packets=2 kept=2 inactive=0\n",
     },
     Row {
         words: "sink --both",
@@ -66,7 +66,7 @@ const ANSWERED: [Row; 37] = [
         more: b"",
         status: Status::Done,
         output: b"\x01\x02\x03\x04",
-        notes: "sink: file length=4 packets=2 kept=2\n",
+        notes: "sink: file length=4 packets=2 kept=2 inactive=0\n",
     },
     Row {
         words: "sink --workers 1",
@@ -75,7 +75,7 @@ const ANSWERED: [Row; 37] = [
         more: b"",
         status: Status::Done,
         output: b"\x01\x02\x03\x04",
-        notes: "sink: file length=4 packets=2 kept=2\n",
+        notes: "sink: file length=4 packets=2 kept=2 inactive=0\n",
     },
     Row {
         words: "sink --workers 2",
@@ -84,7 +84,7 @@ const ANSWERED: [Row; 37] = [
         more: b"",
         status: Status::Done,
         output: b"\x01\x02\x03\x04",
-        notes: "sink: file length=4 packets=2 kept=2\n",
+        notes: "sink: file length=4 packets=2 kept=2 inactive=0\n",
     },
     Row {
         words: "sink --workers 64",
@@ -93,7 +93,7 @@ const ANSWERED: [Row; 37] = [
         more: b"",
         status: Status::Done,
         output: b"\x01\x02\x03\x04",
-        notes: "sink: file length=4 packets=2 kept=2\n",
+        notes: "sink: file length=4 packets=2 kept=2 inactive=0\n",
     },
     Row {
         words: "sink",
@@ -102,7 +102,7 @@ const ANSWERED: [Row; 37] = [
         more: b"P\0\0\0\0\0\x01\x03\x04P\0\0\0\0\0\x01\x03\x04P\0\0\0\0\0\x01\x03\x04P\0\0\0\0\x01\0\x01\x02P\0\0\0\0\x01\0\x01\x02P\0\0\0\0\x01\0\x01\x02",
         status: Status::Done,
         output: b"\x01\x02\x03\x04",
-        notes: "sink: file length=4 packets=6 kept=2\n",
+        notes: "sink: file length=4 packets=6 kept=2 inactive=0\n",
     },
     Row {
         words: "sink",
@@ -111,7 +111,7 @@ const ANSWERED: [Row; 37] = [
         more: b"BTS\x01\x02\x80\0\x02\0\0\0\0\0\0\0\x04\0\0\0\0\0\0\0\0\0\0\0\0\0\0\0\0",
         status: Status::Done,
         output: b"\x01\x02\x03\x04",
-        notes: "sink: file length=4 packets=2 kept=2\n",
+        notes: "sink: file length=4 packets=2 kept=2 inactive=0\n",
     },
     Row {
         words: "sink",
@@ -120,7 +120,7 @@ const ANSWERED: [Row; 37] = [
         more: b"P\0\0\0\0\x01\0\x01\x03",
         status: Status::Inconsistent,
         output: b"",
-        notes: "sink: inconsistent packets=2 kept=1\n",
+        notes: "sink: inconsistent packets=2 kept=1 inactive=2\n",
     },
     // The file has no byte where this packet has one.
     Row {
@@ -130,7 +130,7 @@ const ANSWERED: [Row; 37] = [
         more: b"P\0\0\0\0\0\x01\x03\x01",
         status: Status::Inconsistent,
         output: b"",
-        notes: "sink: inconsistent packets=1 kept=1\n",
+        notes: "sink: inconsistent packets=1 kept=1 inactive=2\n",
     },
     Row {
         words: "sink",
@@ -139,7 +139,7 @@ const ANSWERED: [Row; 37] = [
         more: b"P\0\0\0\0\0\x01\x03\0P\0\0\0\0\x01\0\x01\x02",
         status: Status::Done,
         output: b"\x01\x02\x03",
-        notes: "sink: file length=3 packets=2 kept=2\n",
+        notes: "sink: file length=3 packets=2 kept=2 inactive=1\n",
     },
     Row {
         words: "sink",
@@ -148,7 +148,7 @@ const ANSWERED: [Row; 37] = [
         more: b"",
         status: Status::NeedMore,
         output: b"",
-        notes: "sink: need-more open=1 packets=1 kept=1\n",
+        notes: "sink: need-more open=1 packets=1 kept=1 inactive=1\n",
     },
     Row {
         words: "sink",
@@ -157,7 +157,7 @@ const ANSWERED: [Row; 37] = [
         more: b"",
         status: Status::NeedMore,
         output: b"",
-        notes: "sink: need-more open=0 packets=0 kept=0\n",
+        notes: "sink: need-more open=0 packets=0 kept=0 inactive=2\n",
     },
     Row {
         words: "sink",
@@ -166,7 +166,7 @@ const ANSWERED: [Row; 37] = [
         more: b"",
         status: Status::Done,
         output: b"",
-        notes: "sink: file length=0 packets=0 kept=0\n",
+        notes: "sink: file length=0 packets=0 kept=0 inactive=0\n",
     },
     // The batch has one symbol and two packets, so the second is zero.
     Row {
@@ -176,7 +176,7 @@ const ANSWERED: [Row; 37] = [
         more: b"P\0\0\0\0\0\x01\0\0",
         status: Status::Done,
         output: b"\x01\x02",
-        notes: "sink: file length=2 packets=2 kept=2\n",
+        notes: "sink: file length=2 packets=2 kept=2 inactive=0\n",
     },
     Row {
         words: "sink",
@@ -185,7 +185,7 @@ const ANSWERED: [Row; 37] = [
         more: b"P\0\0\0\0\0\x01\0\x01",
         status: Status::Inconsistent,
         output: b"",
-        notes: "sink: inconsistent packets=2 kept=2\n",
+        notes: "sink: inconsistent packets=2 kept=2 inactive=0\n",
     },
     // Twice 01 02 and three times 03 04, and then 01 02.
     Row {
@@ -195,7 +195,7 @@ const ANSWERED: [Row; 37] = [
         more: b"P\0\0\0\0\x02\x03\x07\x08P\0\0\0\0\x01\0\x01\x02",
         status: Status::Done,
         output: b"\x01\x02\x03\x04",
-        notes: "sink: file length=4 packets=2 kept=2\n",
+        notes: "sink: file length=4 packets=2 kept=2 inactive=0\n",
     },
     Row {
         words: "sink",
@@ -204,7 +204,7 @@ const ANSWERED: [Row; 37] = [
         more: b"P\0\0\0\0\x01\0\x01\x02P\0\0\0\0\x01\0\x01\x02P\0\0\0\0\x01\0\x01\x02P\0\0\0\0\x02\x03\x07\x08P\0\0\0\0\x02\x03\x07\x08P\0\0\0\0\x02\x03\x07\x08",
         status: Status::Done,
         output: b"\x01\x02\x03\x04",
-        notes: "sink: file length=4 packets=6 kept=2\n",
+        notes: "sink: file length=4 packets=6 kept=2 inactive=0\n",
     },
     // The sum of both symbols, of which none is known.
     Row {
@@ -214,7 +214,7 @@ const ANSWERED: [Row; 37] = [
         more: b"P\0\0\0\0\x01\x01\x02\x06",
         status: Status::NeedMore,
         output: b"",
-        notes: "sink: need-more open=0 packets=1 kept=1\n",
+        notes: "sink: need-more open=0 packets=1 kept=1 inactive=1\n",
     },
     // A sum of no symbol, which isn't zero, and one that is.
     Row {
@@ -224,7 +224,7 @@ const ANSWERED: [Row; 37] = [
         more: b"P\0\0\0\0\0\0\0\x01",
         status: Status::Inconsistent,
         output: b"",
-        notes: "sink: inconsistent packets=1 kept=0\n",
+        notes: "sink: inconsistent packets=1 kept=0 inactive=2\n",
     },
     Row {
         words: "sink",
@@ -233,7 +233,7 @@ const ANSWERED: [Row; 37] = [
         more: b"P\0\0\0\0\0\0\0\0",
         status: Status::NeedMore,
         output: b"",
-        notes: "sink: need-more open=0 packets=1 kept=0\n",
+        notes: "sink: need-more open=0 packets=1 kept=0 inactive=2\n",
     },
     // Packets of an empty file.
     Row {
@@ -243,7 +243,7 @@ const ANSWERED: [Row; 37] = [
         more: b"P\0\0\0\0\x01\0\0\0",
         status: Status::Done,
         output: b"",
-        notes: "sink: file length=0 packets=1 kept=1\n",
+        notes: "sink: file length=0 packets=1 kept=1 inactive=0\n",
     },
     Row {
         words: "sink",
@@ -252,7 +252,7 @@ const ANSWERED: [Row; 37] = [
         more: b"P\0\0\0\0\x01\0\0\x01",
         status: Status::Inconsistent,
         output: b"",
-        notes: "sink: inconsistent packets=1 kept=1\n",
+        notes: "sink: inconsistent packets=1 kept=1 inactive=0\n",
     },
     // Twice 80 is 1d.
     Row {
@@ -262,7 +262,7 @@ const ANSWERED: [Row; 37] = [
         more: b"BTS\x01\x01\x80\0\x01\0\0\0\0\0\0\0\x01\0\0\0\0\0\0\0\0\0\0\0\0\0\0\0\0P\0\0\0\0\x02\x1d",
         status: Status::Done,
         output: b"\x80",
-        notes: "sink: file length=1 packets=1 kept=1\n",
+        notes: "sink: file length=1 packets=1 kept=1 inactive=0\n",
     },
     // Two packets of a batch of four symbols.
     Row {
@@ -272,7 +272,7 @@ const ANSWERED: [Row; 37] = [
         more: b"BTS\x01\x02\x01\0\x01\0\0\0\0\0\0\0\x05\0\0\0\0\0\0\0\0\0\0\0\0\0\0\0\0P\0\0\0\0\x01\0\xcfP\0\0\0\0\0\x01\x8f",
         status: Status::NeedMore,
         output: b"",
-        notes: "sink: need-more open=0 packets=2 kept=2\n",
+        notes: "sink: need-more open=0 packets=2 kept=2 inactive=3\n",
     },
     Row {
         words: "check",
@@ -281,7 +281,7 @@ const ANSWERED: [Row; 37] = [
         more: b"BTS\x01\x02\x01\0\x01\0\0\0\0\0\0\0\x05\0\0\0\0\0\0\0\0\0\0\0\0\0\0\0\0P\0\0\0\0\x01\0\xcfP\0\0\0\0\0\x01\x8f",
         status: Status::NeedMore,
         output: b"batch 0 degree 4 kept 2\nanswer need-more open 0\n",
-        notes: "check: need-more open=0 packets=2 kept=2\n",
+        notes: "check: need-more open=0 packets=2 kept=2 inactive=3\n",
     },
     Row {
         words: "check",
@@ -290,7 +290,7 @@ const ANSWERED: [Row; 37] = [
         more: b"P\0\0\0\0\x02\x03\x07\x08P\0\0\0\0\x01\0\x01\x02",
         status: Status::Done,
         output: b"batch 0 degree 2 kept 2\nanswer file\n",
-        notes: "check: file length=4 packets=2 kept=2\n",
+        notes: "check: file length=4 packets=2 kept=2 inactive=0\n",
     },
     Row {
         words: "check --workers 64",
@@ -299,7 +299,7 @@ const ANSWERED: [Row; 37] = [
         more: b"P\0\0\0\0\x01\0\x01\x02P\0\0\0\0\x02\x03\x07\x08P\0\0\0\0\x02\x03\x07\x08",
         status: Status::Done,
         output: b"batch 0 degree 2 kept 2\nanswer file\n",
-        notes: "check: file length=4 packets=3 kept=2\n",
+        notes: "check: file length=4 packets=3 kept=2 inactive=0\n",
     },
     Row {
         words: "check",
@@ -308,7 +308,7 @@ const ANSWERED: [Row; 37] = [
         more: b"",
         status: Status::NeedMore,
         output: b"batch 0 degree 2 kept 1\nanswer need-more open 1\n",
-        notes: "check: need-more open=1 packets=1 kept=1\n",
+        notes: "check: need-more open=1 packets=1 kept=1 inactive=2\n",
     },
     Row {
         words: "check",
@@ -317,7 +317,7 @@ const ANSWERED: [Row; 37] = [
         more: b"P\0\0\0\0\x01\0\x01\x03",
         status: Status::Inconsistent,
         output: b"batch 0 degree 2 kept 1\nanswer inconsistent\n",
-        notes: "check: inconsistent packets=2 kept=1\n",
+        notes: "check: inconsistent packets=2 kept=1 inactive=2\n",
     },
     // A batch of which no packet is kept has no line.
     Row {
@@ -327,7 +327,7 @@ const ANSWERED: [Row; 37] = [
         more: b"P\0\0\0\0\0\0\0\0",
         status: Status::NeedMore,
         output: b"answer need-more open 0\n",
-        notes: "check: need-more open=0 packets=1 kept=0\n",
+        notes: "check: need-more open=0 packets=1 kept=0 inactive=2\n",
     },
     // The numbers rise, in whatever order the packets come.
     Row {
@@ -337,7 +337,7 @@ const ANSWERED: [Row; 37] = [
         more: b"P\0\0\0\x05\x01\0\0\0P\0\0\x01\0\x01\0\0\0P\0\0\0\x03\x01\0\0\0P\0\0\0\x05\0\x01\0\0",
         status: Status::Done,
         output: b"batch 3 degree 0 kept 1\nbatch 5 degree 0 kept 2\nbatch 256 degree 0 kept 1\nanswer file\n",
-        notes: "check: file length=0 packets=4 kept=4\n",
+        notes: "check: file length=0 packets=4 kept=4 inactive=0\n",
     },
     Row {
         words: "show",
@@ -413,6 +413,25 @@ fn receives_what_source_sends(rt: HostRuntime) -> Result<(), Fail> {
     Ok(())
 }
 
+// 977 symbols, of which the last is only in part the file's.
+#[test]
+fn receives_a_million_bytes(rt: HostRuntime) -> Result<(), Fail> {
+    let file = file_of(rt.alloc(), 1_000_000)?;
+    let line =
+        "source --m 16 --t 1024 --seed 00000000000000000000000000000000 --batches 62 --systematic";
+    let sent = make_run(&rt, line, &file, 100_000, [0, 0, 0])?;
+    let run = make_run(
+        &rt,
+        "sink --workers 4",
+        sent.output.written(),
+        100_000,
+        [0, 0, 0],
+    )?;
+    let notes = "sink: file length=1000000 packets=992 kept=992 inactive=1\n";
+    assert_left(&rt, &run, Status::Done, file.as_slice(), notes);
+    Ok(())
+}
+
 #[test]
 fn writes_two_files_that_agree(rt: HostRuntime) -> Result<(), Fail> {
     let input = input_of(rt.alloc(), 41, (15, 3), &[])?;
@@ -420,7 +439,7 @@ fn writes_two_files_that_agree(rt: HostRuntime) -> Result<(), Fail> {
     assert_eq!(rt; run.status, Status::NeedMore);
     assert_eq!(rt;
         run.notes.written(),
-        b"sink: need-more open=1 packets=1 kept=1\n".as_slice()
+        b"sink: need-more open=1 packets=1 kept=1 inactive=1\n".as_slice()
     );
     let both = run.output.written();
     assert!(rt; matches!(both, [1, 2, first, 1, 2, second] if first != second));
@@ -430,7 +449,7 @@ fn writes_two_files_that_agree(rt: HostRuntime) -> Result<(), Fail> {
     assert_eq!(rt; run.status, Status::NeedMore);
     assert_eq!(rt;
         run.notes.written(),
-        b"sink: need-more open=0 packets=1 kept=1\n".as_slice()
+        b"sink: need-more open=0 packets=1 kept=1 inactive=1\n".as_slice()
     );
     let both = run.output.written();
     assert!(rt;

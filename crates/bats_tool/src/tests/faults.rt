@@ -36,20 +36,20 @@ const RUNS: [Calls; 5] = [
         words: "sink",
         input: &SMALL_OUTPUT,
         output: &[1, 2, 3, 4],
-        notes: "sink: file length=4 packets=2 kept=2\n",
+        notes: "sink: file length=4 packets=2 kept=2 inactive=0\n",
         reads: 23,
         writes: 3,
-        reports: 14,
+        reports: 17,
     },
     // As many reads. 12 writes for both lines, and the flush.
     Calls {
         words: "check",
         input: &SMALL_OUTPUT,
         output: b"batch 0 degree 2 kept 2\nanswer file\n",
-        notes: "check: file length=4 packets=2 kept=2\n",
+        notes: "check: file length=4 packets=2 kept=2 inactive=0\n",
         reads: 23,
         writes: 13,
-        reports: 14,
+        reports: 18,
     },
     // As many reads. 11 writes for the header, 2 + 1 + 1 for the packet, and the flush.
     Calls {

@@ -29,7 +29,7 @@ fn longest_input(alloc: Global) -> Result<Vec<u8>, AllocError> {
 fn takes_as_many_records_as_may_be(rt: HostRuntime) -> Result<(), Fail> {
     let input = longest_input(rt.alloc())?;
     let run = make_run(&rt, "sink", &input, 1000, [0, 0, 0])?;
-    let notes = "sink: file length=1 packets=1048575 kept=1\n";
+    let notes = "sink: file length=1 packets=1048575 kept=1 inactive=0\n";
     assert_left(&rt, &run, Status::Done, &[7], notes);
     Ok(())
 }
@@ -99,12 +99,12 @@ fn relays_as_many_as_may_be_kept(rt: HostRuntime) -> Result<(), Fail> {
 fn receives_as_many_as_may_be_kept(rt: HostRuntime) -> Result<(), Fail> {
     let sent = many_packets(&rt, 256)?;
     let run = make_run(&rt, "sink", sent.output.written(), 1000, [0, 0, 0])?;
-    let notes = "sink: file length=1 packets=8192 kept=8192\n";
+    let notes = "sink: file length=1 packets=8192 kept=8192 inactive=0\n";
     assert_left(&rt, &run, Status::Done, &[7], notes);
     let mut twice = Vec::from_slice(rt.alloc(), sent.output.written())?;
     twice.extend_from_slice(sent.output.written())?;
     let run = make_run(&rt, "sink", &twice, 1000, [0, 0, 0])?;
-    let notes = "sink: file length=1 packets=16384 kept=8192\n";
+    let notes = "sink: file length=1 packets=16384 kept=8192 inactive=0\n";
     assert_left(&rt, &run, Status::Done, &[7], notes);
     let sent = many_packets(&rt, 257)?;
     for words in ["sink", "check"] {
