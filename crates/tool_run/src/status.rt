@@ -14,7 +14,8 @@ pub enum Status {
     Usage = 3,
     /// The input is no packet file.
     Input = 4,
-    /// The file has more than 4,096 symbols, or the input goes on after 1,048,576 records.
+    /// The file has more than 4,096 symbols, the input goes on after 1,048,576 records, or a packet is new when 8,192 are
+    /// kept.
     Limit = 5,
     /// A read of the input failed.
     ReadFault = 6,
