@@ -19,7 +19,7 @@ pub use answer::Answer;
 pub use batch::Batch;
 pub use bytes::Bytes;
 pub use item::Item;
-pub use laws::{each_list_has_an_answer, kept_packets_stand_for_all};
+pub use laws::{combinations_are_told, each_list_has_an_answer, kept_packets_stand_for_all};
 pub use numbers::Nums;
 pub use packet::Packet;
 pub use plain::{is_plain, unit_place};
