@@ -1,6 +1,6 @@
 //! Runs each row kernel once on fixed rows and prints a digest of what it leaves. With the word `time` it times each
-//! kernel beside a plain copy of as many bytes, and with the word `offers` the offering of packets beside as many row
-//! operations.
+//! kernel beside a plain copy of as many bytes, with the word `offers` the offering of packets beside row operations, and
+//! with the word `solves` the solving of received packets beside as many row operations as it does.
 #![tactic(auto)]
 
 use std::env::Env;
@@ -9,7 +9,11 @@ use std::sync::ledger::Blank;
 use std::{env, io};
 
 mod digests;
+mod draws;
+mod lines;
 mod offering;
+mod sending;
+mod solving;
 mod timing;
 
 // What is printed.
@@ -18,6 +22,7 @@ enum Task {
     Digests,
     Times,
     OfferTimes,
+    SolveTimes,
 }
 
 // What the first word of the command line asks for.
@@ -28,6 +33,7 @@ fn asked<R: Env + AllocGlobal>(rt: &R) -> io::Result<Task> {
     Ok(match word.as_str() {
         "time" => Task::Times,
         "offers" => Task::OfferTimes,
+        "solves" => Task::SolveTimes,
         _ => Task::Digests,
     })
 }
@@ -37,6 +43,11 @@ fn main(rt: HostRuntime) -> io::Result<()> {
         Task::Digests => digests::print_digests::<Brand, HostRuntime>(&rt, Blank::new(1)),
         Task::Times => timing::print_all_times(&rt),
         Task::OfferTimes => offering::print_offer_times::<Brand, Brand, HostRuntime>(
+            &rt,
+            Blank::new(1),
+            Blank::new(1),
+        ),
+        Task::SolveTimes => solving::print_solve_times::<Brand, Brand, HostRuntime>(
             &rt,
             Blank::new(1),
             Blank::new(1),

@@ -1,10 +1,12 @@
-//! Times the offering of packets to a `Held` beside as many row operations, all in memory that was used before, and in
-//! memory that is used for the first time.
+//! Times the offering of packets to a `Held`, in memory that was used before and in memory that is used for the first
+//! time, beside row operations. Offering a new packet does none on the payload's bytes, since reduced rows have factors
+//! in place of payloads. The row operations here are those that bases with payloads would need.
 ghost use Rattle.std.specs.Prelude.{◌≡◌, ◌<◌};
 
+use crate::draws::Draws;
 use crate::timing::{buffer, nanos_since};
 use bats_batch::Held;
-use bats_model::{Bytes, Packet, Session};
+use bats_model::{Packet, Session};
 use gf_core::Gf;
 use gf_rows::{Steps, add_scaled, scale_row};
 use std::alloc::{AllocError, AllocGlobal, Global};
@@ -18,41 +20,14 @@ const BATCH_SIZE: usize = 16;
 // Bytes of a payload.
 const SYMBOL_SIZE: usize = 1024;
 
-// Bytes of a packet's coefficients and payload as one row.
-const ROW_SIZE: usize = BATCH_SIZE + SYMBOL_SIZE;
-
 const PACKETS: u32 = 3680;
 
 // How often each is timed, in turn. The best round counts.
 const ROUNDS: u32 = 25;
 
-// A fixed sequence of bytes without a pattern, by a linear congruence.
-#[derive(Drop)]
-struct Draws {
-    state: u32,
-}
-
-impl Draws {
-    fn byte(&mut self) -> u8 {
-        self.state = self
-            .state
-            .wrapping_mul(1_664_525)
-            .wrapping_add(1_013_904_223);
-        (self.state >> 24) as u8
-    }
-
-    fn bytes(&mut self, alloc: Global, size: usize) -> Result<Bytes, AllocError> {
-        let mut bytes = Bytes::new(alloc);
-        for _ in 0..size {
-            bytes.push(self.byte())?;
-        }
-        Ok(bytes)
-    }
-}
-
 // Packets of 230 batches, 16 a batch. From this start the 16 coefficient vectors of each batch are independent.
 fn packets(alloc: Global) -> Result<Vec<Packet>, AllocError> {
-    let mut draws = Draws { state: 4 };
+    let mut draws = Draws::new(4);
     let mut packets = Vec::new(alloc);
     for i in 0..PACKETS {
         let coefs = draws.bytes(alloc, BATCH_SIZE)?;
@@ -89,7 +64,7 @@ fn offer_all<C: Ledger, L: Ledger>(
 // Adds multiples of the rows before it to a row, and scales it.
 fn reduce_row(before: &[u8], row: &mut [u8]) {
     let mut factor = 2;
-    for other in before.chunks_exact(ROW_SIZE) {
+    for other in before.chunks_exact(SYMBOL_SIZE) {
         if other.len() == row.len() {
             add_scaled(row, Gf::new(factor), other);
         }
@@ -100,21 +75,22 @@ fn reduce_row(before: &[u8], row: &mut [u8]) {
     }
 }
 
-// The row operations that one batch takes at most: a sum for each kept packet before, and a scaling.
+// The row operations of one batch whose reduced rows have payloads: for each packet a sum for each packet before it, and
+// a scaling.
 fn reduce_batch(batch: &mut [u8]) {
     for rank in 0..BATCH_SIZE {
-        let at = rank * ROW_SIZE;
+        let at = rank * SYMBOL_SIZE;
         if at <= batch.len() {
             let (before, rest) = batch.split_at_mut(at);
-            if ROW_SIZE <= rest.len() {
-                reduce_row(before, &mut rest[..ROW_SIZE]);
+            if SYMBOL_SIZE <= rest.len() {
+                reduce_row(before, &mut rest[..SYMBOL_SIZE]);
             }
         }
     }
 }
 
 fn reduce_all(rows: &mut [u8]) {
-    for batch in rows.chunks_exact_mut(BATCH_SIZE * ROW_SIZE) {
+    for batch in rows.chunks_exact_mut(BATCH_SIZE * SYMBOL_SIZE) {
         reduce_batch(batch);
     }
 }
@@ -195,7 +171,7 @@ fn hold_above<C: Ledger, L: Ledger>(
     above
 }
 
-// The nanoseconds of as many row operations.
+// The nanoseconds of these row operations for all batches.
 fn reduce_time(rt: &impl Clock, rows: &mut [u8]) -> io::Result<u64> {
     let start = Instant::now(rt)?;
     reduce_all(rows);
@@ -213,7 +189,7 @@ fn print_best<C: Ledger, L: Ledger>(
     requires t { session.t ≡ 1024 }
 {
     let packets = packets(rt.alloc())?;
-    let mut rows = buffer(rt.alloc(), packets.len().saturating_mul(ROW_SIZE), 0x5A)?;
+    let mut rows = buffer(rt.alloc(), packets.len().saturating_mul(SYMBOL_SIZE), 0x5A)?;
     let _above = hold_above(rt.alloc(), session, &packets, coef_steps, steps);
     let mut best = Offered {
         kept: PACKETS,
@@ -229,8 +205,9 @@ fn print_best<C: Ledger, L: Ledger>(
     println!(rt; "{} {} {} {}", best.kept, best.again, best_rows, best.fresh)
 }
 
-/// Times offering 3,680 packets of 230 batches beside as many row operations as that takes. The line has the number of
-/// kept packets, the nanoseconds of both in memory that was used before, and those of offering in fresh memory.
+/// Times offering 3,680 packets of 230 batches beside as many row operations of T bytes as bases with payloads would
+/// need. The line has the number of kept packets, the nanoseconds of both in memory that was used before, and those of
+/// offering in fresh memory.
 pub fn print_offer_times<C: Ledger, L: Ledger, R: Clock + Print + AllocGlobal>(
     rt: &R,
     coef_blank: Blank,
