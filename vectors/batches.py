@@ -42,6 +42,14 @@ def combined(width, factors, rows):
     return total
 
 
+def dot(row, other):
+    """The sum of the products, place by place."""
+    total = 0
+    for a, b in zip(row, other):
+        total ^= PRODUCTS[a][b]
+    return total
+
+
 def reduce(rows, width):
     """The rows, reduced in the first `width` places: first those with a pivot, then the others. And the pivots' places."""
     rows, pivots = list(rows), []
@@ -143,8 +151,7 @@ def equation(session, packet):
     """How much of each symbol is in a packet, if it is what its batch and its vector say."""
     factors = bytearray(session.symbols)
     for contributor, row in zip(*batch_of(session, packet.batch)):
-        for coefficient, entry in zip(packet.coefs, row):
-            factors[contributor] ^= PRODUCTS[coefficient][entry]
+        factors[contributor] = dot(packet.coefs, row)
     return bytes(factors)
 
 

@@ -10,8 +10,8 @@ import sys
 from pathlib import Path
 
 sys.dont_write_bytecode = True
-from batches import (Packet, batch_of, combined, equation, kept_packets, packet_record, reduce, relay, session_of, source,
-                     symbols_of)
+from batches import (Packet, batch_of, combined, dot, equation, kept_packets, packet_record, reduce, relay, session_of,
+                     source, symbols_of)
 
 MOST_RECORDS = 1 << 20
 MOST_SYMBOLS = 4096
@@ -95,6 +95,42 @@ def answer(session, packets):
     return "file", b"".join(a + b for a, b in zip(front, back))[:session.length]
 
 
+# ---- which symbols are inactive
+
+def fixes(session, number, kept, known):
+    """Whether the kept packets of a batch leave nothing open of its contributors that aren't known, of which there are some."""
+    contributors, generator = batch_of(session, number)
+    open_places = [k for k, s in enumerate(contributors) if s not in known]
+    rows = [bytes(dot(packet.coefs, generator[k]) for k in open_places) for packet in kept]
+    return bool(open_places) and len(reduce(rows, len(open_places))[1]) == len(open_places)
+
+
+def spread(session, kept, known):
+    """Adds the contributors of each batch that fixes them, as long as there is one."""
+    while True:
+        found = next((number for number in kept if fixes(session, number, kept[number], known)), None)
+        if found is None:
+            return
+        known.update(batch_of(session, found)[0])
+
+
+def inactive_count(session, kept):
+    """How many symbols are taken as known: the last one, where it is padded, and then, as long as a symbol isn't known by these, the
+    one among them that is in most of the held batches, of equals the lowest."""
+    held = [s for number in kept for s in batch_of(session, number)[0]]
+    chosen = [session.symbols - 1] if session.length % session.t else []
+    count, known = len(chosen), set(chosen)
+    spread(session, kept, known)
+    for s in sorted(range(session.symbols), key=lambda s: (-held.count(s), s)):
+        if s not in known:
+            count += 1
+            known.add(s)
+            spread(session, kept, known)
+    return count
+
+
+# ---- what the commands say
+
 def agrees(session, packets, file):
     symbols = symbols_of(session, file)
     return all(combined(session.t, equation(session, p), symbols) == p.payload for p in packets)
@@ -118,6 +154,7 @@ def solving(command, data):
     kind, value = answer(session, packets)
     said = {"file": " length=%d" % session.length, "inconsistent": "", "need-more": " open=%s" % value}[kind]
     notes = "%s: %s%s packets=%d kept=%d" % (command, kind, said, len(packets), count)
+    notes += " inactive=%d" % inactive_count(session, kept)
     output = value if kind == "file" else b""
     if command == "check":
         opened = " open %d" % value if kind == "need-more" else ""
@@ -196,12 +233,12 @@ def both_fault(data, run):
 
 
 def run_fault(data, run):
-    """What is wrong with a stored run. How many symbols are inactive isn't computed here."""
+    """What is wrong with a stored run. A notes line may lack the last field, as it did once."""
     command, *rest = run["run"].split()
     status, notes, output = show(data) if command == "show" else solving(command, data)
     if int(run["status"]) != status:
         return "the status is %d" % status
-    if re.sub(" inactive=[0-9]+$", "", run["notes"]) != notes:
+    if run["notes"] not in (notes, re.sub(" inactive=[0-9]+$", "", notes)):
         return "the notes line is " + notes
     if rest == ["--both"] and status == 1:
         return both_fault(data, run)
