@@ -145,8 +145,7 @@ impl Decoder {
     }
 
     /// What the received packets say of the file. The number of workers is 1 to 64. Each operation of the plan is a step on
-    /// the payload rows. Where a packet contradicts, nothing is run on these, and the plan is empty. An `Err` is want of
-    /// memory, and drops what was received.
+    /// the payload rows. An `Err` is want of memory, and drops what was received.
     pub fn solve<R: Threads + Sync, C: Ledger, L: Ledger>(
         self,
         rt: &R,
