@@ -206,14 +206,6 @@ pub known_term-same : (known : Bool) (factor x y : ℕ) → (known ≡ true → 
 known_term-same true factor x y same = ap (gf_mul factor) (same refl)
 known_term-same false factor x y same = refl
 
-pub Sets-unknown : (row : ℕ) (m : Grid) (p : List Op) (factor : ℕ) (place : Place) (known : Bool) → IsMatrix m → known ≡ false
-    → Sets row m m p p (λ column values. gf_add (part m p column values row) (known_term known factor (place_value m p column values place)))
-Sets-unknown row m p factor place known matrix is =
-    Sets-none row m p (λ column values. gf_add (part m p column values row) (known_term known factor (place_value m p column values place))) matrix
-    (λ column values.
-    sym (ap (λ (b : Bool). gf_add (part m p column values row) (known_term b factor (place_value m p column values place))) is
-    ∙ gf_add-zero (part m p column values row)))
-
 pub Sets-no_factor : (row : ℕ) (m : Grid) (p : List Op) (factor : ℕ) (place : Place) (known : Bool) → IsMatrix m → factor ≡ 0
     → Sets row m m p p (λ column values. gf_add (part m p column values row) (known_term known factor (place_value m p column values place)))
 Sets-no_factor row m p factor place known matrix is =
@@ -276,26 +268,12 @@ Sets-more_terms local k row i factor places known place is_known m n o p q r bef
           next.others column values (AreValuesOf-kept before.keeps are) t other ∙ before.others column values are t other;
     }
 
-pub IsApart-kept : {m n : Grid} {p q : List Op} (row : ℕ) (place : Place) → Keeps m n p q → IsApart m row place → IsApart n row place
-IsApart-kept row (Row r) keeps apart = (omega (arith, apart.0, keeps.rows), apart.1)
-IsApart-kept row (Column j) keeps apart = omega (arith, apart, keeps.cols)
-
 pub known_count-more : (local : Local) (known : List Bool) (k : ℕ)
     → known_count local known (k + 1) ≡ known_count local known k + (if is_in known (contributor_of local.batch k) then 1 else 0)
 unfolding count_true
 known_count-more local known k = rw add-one refl
 
-pub known_count-zero : (local : Local) (known : List Bool) → known_count local known 0 ≡ 0
-unfolding count_true
-known_count-zero local known = refl
-
 -- ---- several rows
-
-pub IsApart-beyond : {m n : Grid} {p q : List Op} (first count i : ℕ) (place : Place) → Keeps m n p q → i < count → IsBeyond m first count place
-    → IsApart n (first + i) place
-IsApart-beyond first count i (Row r) keeps within (below, inl before) = (omega (arith, below, keeps.rows), λ e. omega (arith, before, within, e))
-IsApart-beyond first count i (Row r) keeps within (below, inr after) = (omega (arith, below, keeps.rows), λ e. omega (arith, after, within, e))
-IsApart-beyond first count i (Column j) keeps within beyond = omega (arith, beyond, keeps.cols)
 
 sooner : (first i count r : ℕ) → i ≤ count → r < first ⊎ first + count ≤ r → r < first ⊎ first + i ≤ r
 sooner first i count r within (inl before) = inl before
@@ -307,13 +285,6 @@ place_value-beyond : {first i : ℕ} {m n : Grid} {p q : List Op} {g : List ℕ 
 place_value-beyond {first} {i} count column values (Row r) within changes are beyond =
     changes.others column values are r (sooner first i count r within beyond.1)
 place_value-beyond count column values (Column j) within changes are beyond = refl
-
-pub Changes-none : (first : ℕ) (m : Grid) (p : List Op) (g : List ℕ → (ℕ → ℕ) → ℕ → ℕ) → IsMatrix m → Changes first 0 m m p p g
-Changes-none first m p g matrix = record {
-  keeps = Keeps-none m p matrix;
-  here = λ column values are i within. absurd (omega (arith, within));
-  others = λ column values are r beyond. refl;
-}
 
 -- one more row
 Changes-more : (first i : ℕ) (m n o : Grid) (p q r : List Op) (f : List ℕ → (ℕ → ℕ) → ℕ) (g : List ℕ → (ℕ → ℕ) → ℕ → ℕ)

@@ -37,7 +37,7 @@ use Rattle.bats_peel.specs.declared.order.Step.{Step}
 use Rattle.bats_peel.specs.declared.peeled.Place.{Place}
 use Rattle.bats_peel.specs.declared.peeled.Place.TheVariants.{Row, Column}
 use Rattle.bats_peel.specs.declared.peeled.Peeled.{Peeled}
-use Rattle.bats_peel.specs.declared.operations.Work.{Work}
+use Rattle.bats_peel.specs.declared.work.Work.{Work}
 use Rattle.bats_peel.specs.Peeled.{place_of, columns_of, StandsAt, IsPlaced, GiveSymbols, IsPeeled}
 use Rattle.bats_peel.specs.steps.Fixing.{IsFixing}
 use Rattle.bats_peel.specs.steps.Order.{AreSteps}

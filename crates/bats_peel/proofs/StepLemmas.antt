@@ -26,7 +26,7 @@ use Rattle.bats_peel.specs.declared.local.Local.{Local}
 use Rattle.bats_peel.specs.declared.fixing.Fixing.{Fixing}
 use Rattle.bats_peel.specs.declared.peeled.Place.{Place}
 use Rattle.bats_peel.specs.declared.peeled.Place.TheVariants.{Row}
-use Rattle.bats_peel.specs.declared.operations.Work.{Work}
+use Rattle.bats_peel.specs.declared.work.Work.{Work}
 use Rattle.bats_peel.specs.steps.Local.{IsLocalOf, AreLocals}
 use Rattle.bats_peel.specs.steps.Fixing.{IsFixing, IsLocal, IsOutside, column_from}
 use Rattle.bats_peel.specs.steps.Parts.{segment, Changes, IsBeyond, ArePlacesBeyond, known_term, contributor_term, with_terms, known_count}
@@ -438,26 +438,6 @@ whole n new old size same =
     ap (λ (k : ℕ). take n (new ++ drop k old)) same ∙ ap (λ (rest : List _). take n (new ++ rest)) (drop_all (length old) old (omega arith))
     ∙ ap (λ (xs : List _). take n xs) (append-nil new) ∙ take_all n new (omega (arith, size, same))
 
-pub names_in : {count : ℕ} {symbol : ℕ → ℕ} {place : ℕ → Place} (w : Work) (places new_places : List Place) (known new_known : List Bool)
-    → places ≡ w.places.items → known ≡ w.known.items → GivesPlaces count symbol place places known new_places new_known
-    → GivesPlaces count symbol place w.places.items w.known.items (take w.places.len (new_places ++ drop (length new_places) w.places.items))
-    (take w.known.len (new_known ++ drop (length new_known) w.known.items))
-names_in {count} {symbol} {place} w places new_places known new_known ps ks gives =
-    let first : take w.places.len (new_places ++ drop (length new_places) w.places.items) ≡ new_places =
-    whole w.places.len new_places w.places.items w.places.ok.0 (gives.places_size ∙ ap (λ (xs : List Place). length xs) ps) in
-    let second : take w.known.len (new_known ++ drop (length new_known) w.known.items) ≡ new_known =
-    whole w.known.len new_known w.known.items w.known.ok.0 (gives.known_size ∙ ap (λ (xs : List Bool). length xs) ks) in
-    subst (λ (xs : List Place). GivesPlaces count symbol place w.places.items w.known.items xs (take w.known.len (new_known ++ drop (length new_known) w.known.items))) (sym first)
-    (subst (λ (xs : List Bool). GivesPlaces count symbol place w.places.items w.known.items new_places xs) (sym second)
-    (subst (λ (xs : List Place). GivesPlaces count symbol place xs w.known.items new_places new_known) ps
-    (subst (λ (xs : List Bool). GivesPlaces count symbol place places xs new_places new_known) ks gives)))
-
-pub replayed_in : {m n : Grid} {p q : List Op} (first count rows : ℕ) (plan : List Op) → count ≡ rows
-    → Changes first count m n p q (λ column values i. get_or (plan_on_column plan (segment m p column values first count)) i 0)
-    → Changes first rows m n p q (λ column values i. get_or (plan_on_column plan (segment m p column values first rows)) i 0)
-replayed_in {m} {n} {p} {q} first count rows plan same changes =
-    subst (λ (k : ℕ). Changes first k m n p q (λ column values i. get_or (plan_on_column plan (segment m p column values first k)) i 0)) same changes
-
 pub names_at : {count : ℕ} {symbol : ℕ → ℕ} {place : ℕ → Place} (n k : ℕ) (old_places places new_places : List Place) (old_known known new_known : List Bool)
     → n ≡ length old_places → k ≡ length old_known → places ≡ old_places → known ≡ old_known → GivesPlaces count symbol place places known new_places new_known
     → GivesPlaces count symbol place old_places old_known (take n (new_places ++ drop (length new_places) old_places)) (take k (new_known ++ drop (length new_known) old_known))
@@ -470,3 +450,16 @@ names_at {count} {symbol} {place} n k old_places places new_places old_known kno
     (subst (λ (xs : List Bool). GivesPlaces count symbol place old_places old_known new_places xs) (sym second)
     (subst (λ (xs : List Place). GivesPlaces count symbol place xs old_known new_places new_known) ps
     (subst (λ (xs : List Bool). GivesPlaces count symbol place places xs new_places new_known) ks gives)))
+
+pub names_in : {count : ℕ} {symbol : ℕ → ℕ} {place : ℕ → Place} (w : Work) (places new_places : List Place) (known new_known : List Bool)
+    → places ≡ w.places.items → known ≡ w.known.items → GivesPlaces count symbol place places known new_places new_known
+    → GivesPlaces count symbol place w.places.items w.known.items (take w.places.len (new_places ++ drop (length new_places) w.places.items))
+    (take w.known.len (new_known ++ drop (length new_known) w.known.items))
+names_in w places new_places known new_known ps ks gives =
+    names_at w.places.len w.known.len w.places.items places new_places w.known.items known new_known w.places.ok.0 w.known.ok.0 ps ks gives
+
+pub replayed_in : {m n : Grid} {p q : List Op} (first count rows : ℕ) (plan : List Op) → count ≡ rows
+    → Changes first count m n p q (λ column values i. get_or (plan_on_column plan (segment m p column values first count)) i 0)
+    → Changes first rows m n p q (λ column values i. get_or (plan_on_column plan (segment m p column values first rows)) i 0)
+replayed_in {m} {n} {p} {q} first count rows plan same changes =
+    subst (λ (k : ℕ). Changes first k m n p q (λ column values i. get_or (plan_on_column plan (segment m p column values first k)) i 0)) same changes

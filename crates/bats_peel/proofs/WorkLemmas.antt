@@ -16,7 +16,7 @@ use Rattle.bats_model.specs.Values.{packet_value, AreByteValues}
 use Rattle.bats_batch.specs.Held.{HeldBatch, no_batch, batch_at, kept_packets, row_count}
 use Rattle.bats_peel.specs.declared.peeled.Place.{Place}
 use Rattle.bats_peel.specs.declared.peeled.Place.TheVariants.{Row, Column}
-use Rattle.bats_peel.specs.declared.operations.Work.{Work}
+use Rattle.bats_peel.specs.declared.work.Work.{Work}
 use Rattle.bats_peel.specs.steps.Parts.{part, place_value, AreValuesOf, Changes, IsBeyond}
 use Rattle.bats_peel.specs.steps.Work.{first_row, rank_of, place_in, is_known, is_taken, packet_column, inactive_values, given_by, StandsIn, IsFree, taken_rows, IsWork, GivesPlaces}
 use Rattle.bats_peel.proofs.LocalLemmas.{row_count-room}
@@ -431,39 +431,3 @@ GivesPlaces-none symbol place places known = record {
   here = λ i h. absurd (omega (arith, h));
   others = λ s none. (refl, refl);
 }
-
-pub GivesPlaces-more : (i s : ℕ) (p : Place) (symbol : ℕ → ℕ) (place : ℕ → Place) (places mid_places new_places : List Place) (known mid_known new_known : List Bool)
-    → GivesPlaces i symbol place places known mid_places mid_known → s ≡ symbol i → p ≡ place i → length known ≡ length places → symbol i < length places
-    → ((k : ℕ) → k < i → symbol k ≢ symbol i) → new_places ≡ set mid_places s p → new_known ≡ set mid_known s true
-    → GivesPlaces (i + 1) symbol place places known new_places new_known
-GivesPlaces-more i s p symbol place places mid_places new_places known mid_known new_known gives at by size below apart placed marked =
-    let in_places : s < length mid_places = omega (arith, at, below, gives.places_size) in
-    let in_known : s < length mid_known = omega (arith, at, below, size, gives.known_size) in
-    let elsewhere : (u : ℕ) → u ≢ s → (get_or new_known u false ≡ get_or mid_known u false) × (get_or new_places u (Row 0) ≡ get_or mid_places u (Row 0)) =
-    λ u other. (
-      ap (λ (xs : List Bool). get_or xs u false) marked ∙ get_or-set_other mid_known s u true false other,
-      ap (λ (xs : List Place). get_or xs u (Row 0)) placed ∙ get_or-set_other mid_places s u p (Row 0) other,
-    ) in
-    record {
-      places_size = ap (λ (xs : List Place). length xs) placed ∙ length-set mid_places s p ∙ gives.places_size;
-      known_size = ap (λ (xs : List Bool). length xs) marked ∙ length-set mid_known s true ∙ gives.known_size;
-      here = λ k h.
-          elim (cases_eq k i) [
-            | inl e ↦
-                let here : symbol k ≡ s = ap symbol e ∙ sym at in (
-                  ap (λ (u : ℕ). get_or new_known u false) here ∙ ap (λ (xs : List Bool). get_or xs s false) marked
-                      ∙ get_or-set_same mid_known s true false in_known,
-                  ap (λ (u : ℕ). get_or new_places u (Row 0)) here ∙ ap (λ (xs : List Place). get_or xs s (Row 0)) placed
-                      ∙ get_or-set_same mid_places s p (Row 0) in_places ∙ by ∙ ap place (sym e),
-                )
-            | inr other ↦
-                let less : k < i = omega (arith, h, other) in
-                let same = elsewhere (symbol k) (λ e. apart k less (e ∙ at)) in
-                let old = gives.here k less in
-                (same.0 ∙ old.0, same.1 ∙ old.1)
-          ];
-      others = λ u none.
-          let same = elsewhere u (λ e. none i (omega arith) (sym at ∙ sym e)) in
-          let old = gives.others u (λ k h. none k (omega (arith, h))) in
-          (same.0 ∙ old.0, same.1 ∙ old.1);
-    }

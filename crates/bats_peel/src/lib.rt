@@ -14,6 +14,7 @@ mod operations;
 mod order;
 mod peeled;
 mod terms;
+mod work;
 
 pub use laws::{
     few_packets, fixed_parts, one_inactive_list, one_stuck_set, stuck_sets_go_on, stuck_sets_grow,

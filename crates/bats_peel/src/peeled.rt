@@ -1,5 +1,5 @@
 //! Peeling and its result.
-ghost use Rattle.std.specs.Prelude.{◌≡◌, ◌<◌, ◌≤◌, ◌*◌, IfOk, List, length, slice_index_or};
+ghost use Rattle.std.specs.Prelude.{◌≡◌, ◌<◌, ◌≤◌, ◌*◌, IfOk, List, length};
 ghost use Rattle.bats_model.specs.Peeling.{IsInactiveList, largest_degree};
 ghost use Rattle.bats_model.specs.declared.packet.Packet.{Packet};
 ghost use Rattle.bats_batch.specs.Held.{StandsFor, kept_packets, row_count};

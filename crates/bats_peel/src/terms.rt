@@ -1,6 +1,6 @@
 //! Row operations on the matrix over the inactive symbols, each of which is appended to the plan.
 ghost use Rattle.std.specs.Prelude.{◌≡◌, ◌≢◌, ◌<◌, ◌≤◌, ◌+◌, ◌*◌, true, List, All, OnOk, length, slice_index, if◌then◌else◌};
-ghost use Rattle.gf_core.specs.Field.{gf_add, gf_mul, gf_sum};
+ghost use Rattle.gf_core.specs.Field.{gf_add, gf_mul};
 ghost use Rattle.gf_rows.specs.declared.operation.Op.{Op};
 ghost use Rattle.gf_rows.specs.Matrix.{IsMatrix};
 ghost use Rattle.gf_rows.specs.Operation.{IsRowOperation, FitsRows, op_on_column};

@@ -10,7 +10,7 @@ use Rattle.bats_model.specs.declared.packet.Packet.{Packet}
 use Rattle.bats_batch.specs.Held.{HeldBatch, batch_at, kept_packets, max_kept, row_count}
 use Rattle.bats_peel.specs.declared.peeled.Place.{Place}
 use Rattle.bats_peel.specs.declared.peeled.Place.TheVariants.{Row, Column}
-use Rattle.bats_peel.specs.declared.operations.Work.{Work}
+use Rattle.bats_peel.specs.declared.work.Work.{Work}
 use Rattle.bats_peel.specs.Peeled.{place_of}
 use Rattle.bats_peel.specs.steps.Parts.{part, place_value}
 

@@ -3,7 +3,7 @@ use Rattle.bats_peel.specs.declared.peeled.Place.TheVariants.{Row, Column}
 use Rattle.bats_peel.specs.steps.Work.{GivesPlaces}
 use Rattle.bats_model.specs.Session.{symbols_of}
 use Rattle.bats_peel.proofs.PeeledLemmas.{IsWork-begun, few_below, set_of-given, begun_at}
-use Rattle.bats_peel.proofs.operations.begin.Goals as goal
+use Rattle.bats_peel.proofs.work.begin.Goals as goal
 
 pub place_columns-requires-clause-few : goal.place_columns-requires-clause-few
 place_columns-requires-clause-few c =
