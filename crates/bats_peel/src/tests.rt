@@ -74,34 +74,35 @@ fn peeled_of<C: Ledger, L: Ledger>(
     Ok(peel(alloc, session, &held, &mut coef_steps)?)
 }
 
-// What is peeled has these inactive symbols, which are those of the columns in this order too, and these places of the symbols,
-// and no row is left over.
-fn check<R: AllocGlobal + Abort>(rt: &R, peeled: &Peeled, inactive: &[u32], places: &[Place]) {
+// What the packets are peeled to has these inactive symbols, which are those of the columns in this order too, and these places
+// of the symbols, and no row is left over.
+fn check<R: AllocGlobal + Abort>(
+    rt: &R,
+    session: &Session,
+    vectors: &[[u8; 2]],
+    payload: &[u8],
+    inactive: &[u32],
+    places: &[Place],
+) -> Result<Peeled, Fail> {
+    let counters = (Blank::new(1), Blank::new(1));
+    let peeled = peeled_of::<Brand, Brand>(rt.alloc(), session, vectors, payload, counters)?;
     assert_eq!(rt; peeled.inactive.as_slice(), inactive);
     assert_eq!(rt; peeled.columns.as_slice(), inactive);
     assert_eq!(rt; peeled.places.items.as_slice(), places);
     assert_eq!(rt; peeled.leftover.len(), 0);
+    Ok(peeled)
 }
 
 #[test]
 fn packets_are_peeled(rt: HostRuntime) -> Result<(), Fail> {
     // The sum of two symbols.
     let session = Session::new(2, 2, 4, 0, true, [0; 16])?;
-    let counters = (Blank::new(1), Blank::new(1));
-    let sum = peeled_of::<Brand, Brand>(rt.alloc(), &session, &[[1, 1]], &[2, 6], counters)?;
-    check(&rt, &sum, &[0], &[Place::Column(0), Place::Row(0)]);
+    let places = [Place::Column(0), Place::Row(0)];
+    let sum = check(&rt, &session, &[[1, 1]], &[2, 6], &[0], &places)?;
     assert_eq!(&rt; sum.rows.rows(), 1);
     assert!(&rt; 0 < sum.rows.rows() && sum.rows.row(0) == [1].as_slice());
     // Two packets of a batch that mixes the symbols 2, 4, 0 and 3 of five.
     let session = Session::new(2, 1, 5, 1, false, [0; 16])?;
-    let counters = (Blank::new(1), Blank::new(1));
-    let two = peeled_of::<Brand, Brand>(
-        rt.alloc(),
-        &session,
-        &[[1, 0], [0, 1]],
-        &[0xCF],
-        counters,
-    )?;
     let places = [
         Place::Column(0),
         Place::Column(2),
@@ -109,6 +110,13 @@ fn packets_are_peeled(rt: HostRuntime) -> Result<(), Fail> {
         Place::Row(1),
         Place::Row(0),
     ];
-    check(&rt, &two, &[0, 2, 1], &places);
+    check(
+        &rt,
+        &session,
+        &[[1, 0], [0, 1]],
+        &[0xCF],
+        &[0, 2, 1],
+        &places,
+    )?;
     Ok(())
 }
