@@ -1,5 +1,5 @@
 -- From the kept packets to all received ones: the right answer, and the rows of the symbols.
-use Rattle.std.proofs.Common.{ℕ, zero, suc, ◌≡◌, ◌<◌, ◌+◌, ◌∙◌, ◌↔◌, cond, sym, ap, subst, refl, Bool, true, false, List, All, [], ◌∷◌, ◌++◌, length, get_or, take, arith, eq-eqb, append-nil}
+use Rattle.std.proofs.Common.{ℕ, zero, suc, ◌≡◌, ◌<◌, ◌≤◌, ◌+◌, ◌*◌, ◌∙◌, ◌↔◌, cond, sym, ap, subst, refl, Bool, true, false, List, All, [], ◌∷◌, ◌++◌, length, get_or, take, arith, eq-eqb, append-nil}
 use Rattle.std.proofs.lemmas.Bool.{false≢true}
 use Rattle.std.proofs.lemmas.List.{take_more, take_at, drop_at, length-map}
 use Rattle.std.proofs.lemmas.List.Elements.{All-nil, All-cons, All-head, All-tail, All-append, All-take, All-drop, All-from_get_or, All-weaker}
@@ -10,6 +10,7 @@ use Rattle.gf_rows.specs.Plan.{plan_on_rows}
 use Rattle.gf_rows.proofs.PlanLemmas.{length-plan_on_rows}
 use Rattle.bats_model.specs.Session.{SessionData, symbols_of}
 use Rattle.bats_model.specs.Agreement.{Agrees, AgreesWithAll}
+use Rattle.bats_model.specs.Peeling.{IsInactiveList, largest_degree}
 use Rattle.bats_model.specs.RightAnswer.{IsRightAnswer, NoFileAgrees}
 use Rattle.bats_model.specs.PacketFile.{HasShape}
 use Rattle.bats_model.specs.Kept.{HasContradiction}
@@ -17,10 +18,11 @@ use Rattle.bats_model.specs.declared.packet.Packet.{Packet}
 use Rattle.bats_model.specs.declared.answer.Answer.{Answer}
 use Rattle.bats_model.specs.declared.answer.Answer.TheVariants.{File, Inconsistent, NeedMore}
 use Rattle.bats_model.proofs.KeptSpans.{All-kept_of}
-use Rattle.bats_batch.specs.Held.{HeldBatch, HeldData, batch_at, no_batch, kept_packets}
+use Rattle.bats_batch.specs.Held.{HeldBatch, HeldData, batch_at, no_batch, row_count, kept_packets}
 use Rattle.bats_batch.specs.Held.{StandsFor as HoldsFor}
 use Rattle.bats_batch.proofs.HeldAgreement.{held-agreement}
 use Rattle.bats_batch.proofs.HeldBatches.{kept_at-stands}
+use Rattle.bats_peel.proofs.InactiveLists.{no_other_list}
 use Rattle.bats_decode.specs.Decoder.{DecoderData, StandsFor}
 use Rattle.bats_decode.specs.SolvingPlan.{PlanFollows}
 use Rattle.bats_decode.specs.declared.elimination.Place.{Place}
@@ -190,3 +192,34 @@ plan-follows session packets e payload (File file) rows eliminated (hold, paddin
     (λ s within. both.1 s (subst (λ (n : ℕ). s < n) (sym size) within) ∙ ap (λ (rs : List ℕ). Row (get_or rs s 0)) (sym is))
 plan-follows session packets e payload Inconsistent rows eliminated right is = is
 plan-follows session packets e payload (NeedMore s first second) rows eliminated right is = is
+
+-- ---- the operations on payload rows
+
+rise-within : (before after n most : ℕ) → after ≡ before + n → n ≤ most → after ≤ before + most
+rise-within before after n most counted within = omega (arith, counted, within)
+
+-- Once the plan was run, the counter is within the bound: the columns of the eliminated matrix are as many as the entries
+-- of an inactive list, and there is one such list.
+pub steps-bounded : (session : SessionData) (held : HeldData) (decoder : DecoderData) (plan : List Op) (cols before after : ℕ)
+    → held.session ≡ session → held ≡ decoder.held
+    → ((packets : List Packet) → HoldsFor packets held → (list : List ℕ) × (IsInactiveList session packets list × (cols ≡ length list)))
+    → ((packets : List Packet) → HoldsFor packets held → length plan ≤ row_count held.batches * (largest_degree session packets + cols))
+    → after ≡ before + length plan
+    → (packets : List Packet) (list : List ℕ) → StandsFor packets decoder → IsInactiveList decoder.held.session packets list
+    → after ≤ before + row_count decoder.held.batches * (largest_degree decoder.held.session packets + length list)
+steps-bounded session held decoder plan cols before after same is inactive bound counted packets list stands inactive_list =
+    let own : decoder.held.session ≡ session = ap (λ (h : HeldData). h.session) (sym is) ∙ same in
+    let holds : HoldsFor packets held = subst (HoldsFor packets) (sym is) stands.holds in
+    let found = inactive packets holds in
+    let one : found.0 ≡ list =
+    no_other_list session packets found.0 list found.1.0 (subst (λ (s : SessionData). IsInactiveList s packets list) own inactive_list) in
+    let size : cols ≡ length list = found.1.1 ∙ ap (λ (l : List ℕ). length l) one in
+    let Within : HeldData → SessionData → ℕ → Type 0 =
+    λ h s n. length plan ≤ row_count h.batches * (largest_degree s packets + n) in
+    let in_columns : Within held session cols = bound packets holds in
+    let in_list : Within held session (length list) = subst (Within held session) size in_columns in
+    let of_decoder : Within decoder.held session (length list) = subst (λ (h : HeldData). Within h session (length list)) is in_list in
+    let within : Within decoder.held decoder.held.session (length list) =
+    subst (λ (s : SessionData). Within decoder.held s (length list)) (sym own) of_decoder in
+    rise-within before after (length plan)
+    (row_count decoder.held.batches * (largest_degree decoder.held.session packets + length list)) counted within

@@ -167,7 +167,11 @@ impl Decoder {
         ensures bound { IfOk result (λ solved. (packets : List Packet) → StandsFor packets self → length solved.plan
             ≤ row_count self.held.batches * (largest_degree self.held.session packets + solved.inactive)) }
         ensures counted { IfOk result (λ solved. steps.new ≡ steps.old + length solved.plan) }
+        ensures steps { (packets : List Packet) (list : List ℕ) → StandsFor packets self
+            → IsInactiveList self.held.session packets list → steps.new
+            ≤ steps.old + row_count self.held.batches * (largest_degree self.held.session packets + length list) }
         ensures coef_steps_rise { coef_steps.old ≤ coef_steps.new }
+        ensures steps_rise { steps.old ≤ steps.new }
     {
         let session = self.session;
         let alloc = self.alloc;

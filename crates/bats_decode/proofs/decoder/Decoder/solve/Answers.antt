@@ -16,7 +16,7 @@ use Rattle.bats_decode.specs.steps.SymbolRows.{rows_with}
 use Rattle.bats_decode.proofs.AnswersRight.{answers-right}
 use Rattle.bats_decode.proofs.LeftLemmas.{cols-inactive}
 use Rattle.bats_decode.proofs.PayloadLemmas.{length-kept_packets}
-use Rattle.bats_decode.proofs.Solving.{shapes-kept, right-contradicted, right-of_kept, replayed-payloads, length-replayed, plan-follows}
+use Rattle.bats_decode.proofs.Solving.{shapes-kept, right-contradicted, right-of_kept, replayed-payloads, length-replayed, plan-follows, steps-bounded}
 use Rattle.bats_decode.proofs.decoder.Decoder.solve.Goals as goal
 
 pub returns-then-self-clause-right : goal.returns-then-self-clause-right
@@ -120,3 +120,21 @@ returns-clause-plan g c packets h =
     c.in_ok-answer.ensures rows in
     subst (λ (d : DecoderData). PlanFollows d.held.session (kept_packets d.held.batches) e.plan c.in_ok-rows.rows answer) c.self.view_is
     (subst (λ (s : SessionData). PlanFollows s (kept_packets inside.held.batches) e.plan c.in_ok-rows.rows answer) (sym c.self.invariant.0) follows)
+
+pub returns-in_err-answer-clause-steps : goal.returns-in_err-answer-clause-steps
+returns-in_err-answer-clause-steps g c =
+    steps-bounded c.self.inside.session c.self.inside.held c.args.self c.in_ok-e.e.plan c.in_ok-e.e.matrix.cols c.args.steps.now
+    c.replay.new.steps c.self.invariant.0 (ap (λ (d : DecoderData). d.held) c.self.view_is) c.in_ok-e.ensures.inactive
+    c.in_ok-e.ensures.bound c.replay.ensures.counted
+
+pub returns-in_err-rows-clause-steps : goal.returns-in_err-rows-clause-steps
+returns-in_err-rows-clause-steps g c =
+    steps-bounded c.self.inside.session c.self.inside.held c.args.self c.in_ok-e.e.plan c.in_ok-e.e.matrix.cols c.args.steps.now
+    c.replay.new.steps c.self.invariant.0 (ap (λ (d : DecoderData). d.held) c.self.view_is) c.in_ok-e.ensures.inactive
+    c.in_ok-e.ensures.bound c.replay.ensures.counted
+
+pub returns-clause-steps : goal.returns-clause-steps
+returns-clause-steps g c =
+    steps-bounded c.self.inside.session c.self.inside.held c.args.self c.in_ok-e.e.plan c.in_ok-e.e.matrix.cols c.args.steps.now
+    c.replay.new.steps c.self.invariant.0 (ap (λ (d : DecoderData). d.held) c.self.view_is) c.in_ok-e.ensures.inactive
+    c.in_ok-e.ensures.bound c.replay.ensures.counted
