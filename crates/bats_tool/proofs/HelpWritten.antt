@@ -1,5 +1,5 @@
 -- The run of `help`, from what it wrote of its text.
-use Rattle.std.proofs.Common.{◌≡◌, List, [], take, Option, Some, None, Result, Ok, Err, refl, sym, subst}
+use Rattle.std.proofs.Common.{◌≡◌, [], take, Some, None, Result, Ok, Err, refl, sym, subst}
 use Rattle.std.specs.Prelude.{string_bytes}
 use Rattle.std.specs.Result.{IsErrAnd}
 use Rattle.bats_io.specs.Streams.{InputState, OutputState}
