@@ -1,2 +1,11 @@
 pub mod Causes
 pub mod Honest
+pub mod Outcomes
+pub mod LinkLemmas
+pub mod StateSteps
+pub mod WorldSteps
+pub mod Fullness
+pub mod RelayChanges
+pub mod SourcePackets
+pub mod Giving
+pub mod Finishing

@@ -1,6 +1,6 @@
 -- A network of honest nodes, and what one event does. Node 0 is the source, nodes 1 to r are the relays, and node r + 1 is
 -- the sink.
-use Rattle.std.specs.Prelude.{ℕ, ◌≡◌, ◌<◌, ◌+◌, ◌-◌, ◌^◌, ◌==◌, ◌&&◌, ◌||◌, not, nat_lt, if◌then◌else◌, Bool, List, [], ◌∷◌, ◌++◌, length, map, filter, slice_index_or, Result, Ok, Err}
+use Rattle.std.specs.Prelude.{ℕ, ◌≡◌, ◌<◌, ◌≤◌, ◌+◌, ◌-◌, ◌^◌, ◌==◌, ◌&&◌, ◌||◌, not, nat_lt, if◌then◌else◌, Bool, List, [], ◌∷◌, ◌++◌, length, map, filter, slice_index_or, Result, Ok, Err}
 use Rattle.std.specs.List.{list_any}
 use Rattle.bats_model.specs.Session.{SessionData}
 use Rattle.bats_model.specs.Batch.{batch_of}
@@ -15,9 +15,18 @@ use Rattle.bats_world.specs.declared.event.WorldEnd.{WorldEnd}
 use Rattle.bats_world.specs.declared.event.WorldEnd.TheVariants as causes
 use Rattle.bats_world.specs.declared.made.Made.{Made}
 
--- packets of the pool, at most
+-- relays, and packets of the pool, at most
+abbrev pub max_relays : ℕ
+max_relays = 16
+
 abbrev pub max_pool : ℕ
 max_pool = 65536
+
+-- with so many relays the link leads from the source or a relay to a relay or the sink
+pub record IsLink (relays : ℕ) (link : ℕ × ℕ) : Type 0 where
+  pub from : link.0 ≤ relays
+  pub low : 1 ≤ link.1
+  pub high : link.1 ≤ relays + 1
 
 -- a packet that was given to a node
 pub record Given : Type 0 where

@@ -3,8 +3,16 @@
 
 mod event;
 mod laws;
+mod link_table;
+mod links;
 mod made;
+mod relays;
+mod seeds;
+mod world;
 
 pub use event::{Event, WorldEnd};
 pub use laws::honest_packets_agree;
+pub use links::Links;
 pub use made::Made;
+pub use seeds::Seeds;
+pub use world::{MAX_POOL, World, WorldStart};
