@@ -1,5 +1,5 @@
 //! A network of honest nodes in memory.
-ghost use Rattle.std.specs.Prelude.{ℕ, ◌≡◌, ◌≢◌, ◌<◌, ◌≤◌, ◌+◌, ◌-◌, ◌∷◌, ◌++◌, [], List, All, length, if◌then◌else◌, Ok, Err, IfOk, IfErr, OnOk, OnErr, IsErrOf};
+ghost use Rattle.std.specs.Prelude.{ℕ, ◌≡◌, ◌≢◌, ◌<◌, ◌≤◌, ◌+◌, ◌-◌, ◌*◌, ◌∷◌, ◌++◌, [], List, All, length, if◌then◌else◌, Ok, Err, IfOk, IfErr, OnOk, OnErr, IsErrOf};
 ghost use Rattle.std.specs.Vec.{vec_len, vec_capacity};
 ghost use Rattle.bats_model.specs.PacketFile.{HasShape};
 ghost use Rattle.bats_model.specs.Kept.{kept_of, kept_count};
@@ -222,6 +222,13 @@ impl World {
             → solved.kept ≡ kept_count (received_by (sink_of state) state.given)) }
         ensures inactive { IfOk result (λ solved. (state : NetworkState) → StandsFor state self → (list : List ℕ)
             × (IsInactiveList state.session (received_by (sink_of state) state.given) list × (solved.inactive ≡ length list))) }
+        ensures fits { IfOk result (λ solved. All (FitsRows (row_count self.sink.held.batches)) solved.plan) }
+        ensures plan { IfOk result (λ solved. (state : NetworkState) → StandsFor state self → PlanFollows state.session
+            (kept_packets self.sink.held.batches) solved.plan solved.rows solved.answer) }
+        ensures counted { IfOk result (λ solved. steps.new ≡ steps.old + length solved.plan) }
+        ensures bound { IfOk result (λ solved. (state : NetworkState) → StandsFor state self → length solved.plan
+            ≤ row_count self.sink.held.batches
+            * (largest_degree state.session (received_by (sink_of state) state.given) + solved.inactive)) }
         ensures coef_steps_rise { coef_steps.old ≤ coef_steps.new }
         ensures steps_rise { steps.old ≤ steps.new }
     {
