@@ -1,5 +1,6 @@
 pub mod Causes
 pub mod Honest
+pub mod Reaching
 pub mod Outcomes
 pub mod LinkLemmas
 pub mod StateSteps

@@ -156,3 +156,10 @@ Leads start (event ∷ events) state =
 pub record IsReached (state : NetworkState) : Type 0 where
   pub events : List Event
   pub leads : Leads (opening state.session state.file state.seeds state.links) events state
+
+-- session, file, seeds and links of both states are the same
+pub record IsSameNetwork (state next : NetworkState) : Type 0 where
+  pub session : next.session ≡ state.session
+  pub file : next.file ≡ state.file
+  pub seeds : next.seeds ≡ state.seeds
+  pub links : next.links ≡ state.links

@@ -1,9 +1,9 @@
-//! The law on honest networks, as the contract of a function with an empty body.
-ghost use Rattle.std.specs.Prelude.{ℕ, List, All};
-ghost use Rattle.bats_model.specs.Session.{SessionData, IsSession};
+//! Laws on honest networks, each as the contract of a function with an empty body.
+ghost use Rattle.std.specs.Prelude.{ℕ, ◌≡◌, List, All, Ok};
+ghost use Rattle.bats_model.specs.Session.{SessionData};
 ghost use Rattle.bats_model.specs.Agreement.{IsFile, Agrees, AgreesWithAll};
 ghost use Rattle.bats_model.specs.PacketFile.{HasShape};
-ghost use Rattle.bats_world.specs.World.{NetworkState, IsReached, received_by};
+ghost use Rattle.bats_world.specs.World.{NetworkState, IsReached, IsEvent, IsSameNetwork, opening, after_event, received_by};
 ghost use Rattle.bats_world.specs.declared.event.Event.{Event};
 ghost use Rattle.bats_world.specs.declared.made.Made.{Made};
 
@@ -17,4 +17,15 @@ pub fn honest_packets_agree()
         → AgreesWithAll state.session (received_by node state.given) state.file }
     ensures shapes { (state : NetworkState) (node : ℕ) → IsFile state.session state.file → IsReached state
         → All (HasShape state.session) (received_by node state.given) }
+{}
+
+/// No event leads from the opening state to itself, and one event more from a reached state to a reached state, of the
+/// same session, file, seeds and links.
+pub fn events_lead_on()
+    ensures opening { (session : SessionData) (file : List ℕ) (seeds : List (List ℕ)) (links : List (ℕ × ℕ))
+        → IsReached (opening session file seeds links) }
+    ensures more { (state : NetworkState) (event : Event) (next : NetworkState) → IsReached state → IsEvent event
+        → after_event state event ≡ Ok next → IsReached next }
+    ensures same { (state : NetworkState) (event : Event) (next : NetworkState) → after_event state event ≡ Ok next
+        → IsSameNetwork state next }
 {}

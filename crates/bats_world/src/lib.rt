@@ -11,7 +11,7 @@ mod seeds;
 mod world;
 
 pub use event::{Event, WorldEnd};
-pub use laws::honest_packets_agree;
+pub use laws::{events_lead_on, honest_packets_agree};
 pub use links::Links;
 pub use made::Made;
 pub use seeds::Seeds;
