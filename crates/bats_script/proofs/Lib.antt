@@ -1,1 +1,4 @@
 pub mod KeyBytes
+pub mod ValueLemmas
+pub mod EachLemmas
+pub mod ScriptLemmas

@@ -1,2 +1,5 @@
 pub mod KeyPlaces
 pub mod Trial
+pub mod ScriptValues
+pub mod Script
+pub mod steps

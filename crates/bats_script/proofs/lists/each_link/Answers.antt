@@ -1,0 +1,39 @@
+use Rattle.std.proofs.Common.{◌≡◌, ◌≤◌, get_or, length, sym, ◌∙◌, inr, arith}
+use Rattle.std.proofs.lemmas.Grind.{common_steps}
+use Rattle.bats_script.specs.ScriptValues.{link_of}
+use Rattle.bats_script.specs.declared.script_end.ScriptKey.TheVariants.{Links}
+use Rattle.bats_script.proofs.EachLemmas.{each-begin, each-more, each-fails, each-all}
+use Rattle.bats_script.proofs.ScriptLemmas.{needs-some, needs-none}
+use Rattle.bats_script.proofs.lists.each_link.Goals as goal
+
+pub items-init : goal.items-init
+items-init c = record {
+  same = c.deref-item-items.ensures.value;
+  so_far = each-begin (link_of c.args.relays) c.args.items.now.items c.deref-item-items.result.now c.new-links.result c.deref-item-items.ensures.value c.new-links.ensures;
+}
+
+pub items-preserved : goal.items-preserved
+items-preserved c =
+    let vs = c.deref-item-items.result.now in
+    let i = c.items.item-index in
+    let item = c.item-item.result in
+    let at : get_or vs i item ≡ item = grind (arith, common_steps) in
+    record {
+      same = c.items.invariant.same;
+      so_far = each-more (link_of c.args.relays) vs i item c.items.links _ _ _ c.items.invariant.so_far c.items-test.true at
+          (sym c.two_numbers.ensures ∙ c.in-Some.is) c.in_ok-push-in-Some.ensures.ok;
+    }
+
+pub returns-in-None : goal.returns-in-None
+returns-in-None c =
+    let vs = c.deref-item-items.result.now in
+    let i = c.items.item-index in
+    let item = c.item-item.result in
+    let at : get_or vs i item ≡ item = grind (arith, common_steps) in
+    inr (needs-none Links _ (each-fails (link_of c.args.relays) vs i item c.items.links _ c.items.invariant.so_far c.items-test.true at (sym c.two_numbers.ensures ∙ c.in-None.is)))
+
+pub returns : goal.returns
+returns c =
+    let vs = c.deref-item-items.result.now in
+    let past : length vs ≤ c.items.item-index = let h' = c.items-test.false in omega arith in
+    inr (needs-some Links _ _ (each-all (link_of c.args.relays) vs c.items.item-index c.items.links _ c.items.invariant.so_far past))

@@ -1,0 +1,11 @@
+use Rattle.std.proofs.Common.{◌∙◌}
+use Rattle.toml.specs.Data.{as_bool}
+use Rattle.bats_script.proofs.ValueLemmas.{found, missing}
+use Rattle.bats_script.proofs.parameters.boolean_at.Goals as goal
+
+pub returns-in-Some : goal.returns-in-Some
+returns-in-Some c =
+    c.as_bool.ensures ∙ found as_bool c.args.name.now c.args.table.now.entries c.get.result c.in-Some.value c.get.ensures.value c.in-Some.is
+
+pub returns-in-None : goal.returns-in-None
+returns-in-None c = missing as_bool c.args.name.now c.args.table.now.entries c.get.result c.get.ensures.value c.in-None.is

@@ -1,0 +1,11 @@
+use Rattle.std.proofs.Common.{◌∙◌}
+use Rattle.bats_script.specs.ScriptValues.{number_between}
+use Rattle.bats_script.proofs.ValueLemmas.{found, missing}
+use Rattle.bats_script.proofs.parameters.number_at.Goals as goal
+
+pub returns-in-Some : goal.returns-in-Some
+returns-in-Some c =
+    c.number_between.ensures ∙ found (number_between c.args.low c.args.high) c.args.name.now c.args.table.now.entries c.get.result c.in-Some.value c.get.ensures.value c.in-Some.is
+
+pub returns-in-None : goal.returns-in-None
+returns-in-None c = missing (number_between c.args.low c.args.high) c.args.name.now c.args.table.now.entries c.get.result c.get.ensures.value c.in-None.is

@@ -1,0 +1,10 @@
+use Rattle.std.proofs.Common.{◌≡◌}
+use Rattle.toml.specs.View.{members_view}
+use Rattle.bats_script.specs.Script.{are_known}
+use Rattle.bats_script.proofs.reading.are_known.Given as goal
+
+abbrev pub invariant-members : goal.invariant-members
+invariant-members l =
+    (goal.iterator-members).can_next l.key-iterator ×
+    (goal.iterator-members).is_finite l.key-iterator ×
+    (are_known (members_view l.key-iterator) ≡ are_known (members_view l.fn.table.entries))

@@ -1,0 +1,11 @@
+use Rattle.std.proofs.Common.{◌∙◌}
+use Rattle.bats_script.specs.ScriptValues.{numbers_of}
+use Rattle.bats_script.proofs.ValueLemmas.{found, missing}
+use Rattle.bats_script.proofs.values.numbers_at.Goals as goal
+
+pub returns-in-Some : goal.returns-in-Some
+returns-in-Some c =
+    c.two_numbers.ensures ∙ found numbers_of c.args.key.now c.args.table.now.entries c.get.result c.in-Some.value c.get.ensures.value c.in-Some.is
+
+pub returns-in-None : goal.returns-in-None
+returns-in-None c = missing numbers_of c.args.key.now c.args.table.now.entries c.get.result c.get.ensures.value c.in-None.is
