@@ -52,4 +52,11 @@ impl Events {
     {
         self.items[i]
     }
+
+    /// The events, lent.
+    pub fn as_slice(&self) -> &[Event]
+        ensures { result.now ≡ self.now }
+    {
+        self.items.as_slice()
+    }
 }
