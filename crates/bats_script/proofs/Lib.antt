@@ -2,3 +2,4 @@ pub mod KeyBytes
 pub mod ValueLemmas
 pub mod EachLemmas
 pub mod ScriptLemmas
+mod Examples
