@@ -2,4 +2,5 @@ pub mod KeyBytes
 pub mod ValueLemmas
 pub mod EachLemmas
 pub mod ScriptLemmas
+pub mod SoundScripts
 mod Examples

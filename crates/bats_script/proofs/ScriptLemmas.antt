@@ -87,7 +87,7 @@ unfolding within
 within-range low high (pos n) x is = among-range low high n x is
 within-range low high (negsuc n) x is = absurd (none-some x is)
 
-number-range : (low high : ℕ) (d : Data) (x : ℕ) → number_between low high d ≡ Some x → (low ≤ x) × (x ≤ high)
+pub number-range : (low high : ℕ) (d : Data) (x : ℕ) → number_between low high d ≡ Some x → (low ≤ x) × (x ≤ high)
 unfolding number_between
 number-range low high (integer z) x is = within-range low high z x is
 number-range low high (string s) x is = absurd (none-some x is)

@@ -2,4 +2,5 @@ pub mod KeyPlaces
 pub mod Trial
 pub mod ScriptValues
 pub mod Script
+pub mod Sound
 pub mod steps

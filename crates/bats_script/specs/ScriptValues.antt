@@ -93,7 +93,7 @@ event_in members =
     else None
 
 unfoldable pub event_of : Data → Option Event
-event_of (table members) = event_in members
+event_of (table inner) = event_in inner
 event_of _ = None
 
 -- events, one after the other

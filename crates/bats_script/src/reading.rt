@@ -1,11 +1,12 @@
 //! The reading of a script, key by key.
-ghost use Rattle.std.specs.Prelude.{◌≡◌, ◌≤◌, codes, IsUtf8};
+ghost use Rattle.std.specs.Prelude.{◌≡◌, ◌≤◌, codes, IsUtf8, IfOk};
 ghost use Rattle.std.specs.Result.{result_ok};
 ghost use Rattle.hex.specs.Hex.{decode_of};
 ghost use Rattle.toml.specs.Data.{get_member};
 ghost use Rattle.toml.specs.View.{view, table_view};
 ghost use Rattle.bats_script.specs.ScriptValues.{hex_bytes, seeds_of, links_of};
 ghost use Rattle.bats_script.specs.Script.{is_known, are_known, needs, value_at, events_at, whole, script_of, script_of_text, IsUnlessMemory};
+ghost use Rattle.bats_script.specs.Sound.{IsSound};
 ghost use Rattle.bats_script.specs.steps.Ranges.{AreWithin};
 
 use crate::events::Events;
@@ -171,6 +172,7 @@ fn script_in(alloc: Global, table: &Table) -> Result<Script, ScriptEnd>
 pub fn read_script(alloc: Global, bytes: &[u8]) -> Result<Script, ScriptEnd>
     ensures text { IsUtf8 bytes.now → IsUnlessMemory (script_of_text bytes.now) result }
     ensures no_text { ¬ (IsUtf8 bytes.now) → IsUnlessMemory (Err (ScriptEnd.Key ScriptKey.Toml)) result }
+    ensures sound { IfOk result IsSound }
 {
     match toml::table_from_slice(alloc, bytes) {
         Ok(table) => script_in(alloc, &table),
