@@ -9,9 +9,6 @@ use rand_core::utils::NextWord;
 use std::alloc::{AllocError, Global};
 use std::marker::Model;
 
-/// Bytes that are drawn from a key at once, at most.
-pub const MAX_KEY_BYTES: u64 = 8_388_608;
-
 // The words of a key, read one at a time in the order of their places.
 #[derive(Drop)]
 struct KeyWords {
