@@ -5,7 +5,7 @@ use Rattle.toml.proofs.OnLiterals.{toml_on_literals}
 use Rattle.hex.proofs.OnLiterals.{hex_on_literals}
 use Rattle.bats_script.specs.ScriptValues.{among, within, number_between, hex_bytes, seed_of, seeds_of, two_in, two_numbers, links_of, event_in, event_of, events_of}
 use Rattle.bats_script.specs.Script.{is_known, ◌>>=◌, needs, events_at, known, parameters_of, session_of, whole, script_of, script_of_text}
-use Rattle.bats_script.specs.declared.event.Event.TheVariants.{Send, Give}
+use Rattle.bats_world.specs.declared.event.Event.TheVariants.{Send, Give}
 use Rattle.bats_script.specs.declared.script_end.ScriptKey.TheVariants as keys
 use Rattle.bats_script.specs.declared.script_end.ScriptEnd.TheVariants.{Key}
 

@@ -18,7 +18,7 @@ use Rattle.bats_script.specs.ScriptValues.{among, within, number_between, each, 
 use Rattle.bats_script.proofs.EachLemmas.{each-length, cond_option}
 use Rattle.bats_script.specs.Script.{needs, ◌>>=◌, is_known, are_known, known, script_of, script_of_text, session_of, whole, script_from, IsUnlessMemory}
 use Rattle.bats_script.specs.steps.Ranges.{AreWithin}
-use Rattle.bats_script.specs.declared.event.Event.{Event}
+use Rattle.bats_world.specs.declared.event.Event.{Event}
 use Rattle.bats_script.specs.declared.parameters.Parameters.{Parameters}
 use Rattle.bats_script.specs.declared.script_end.ScriptKey.{ScriptKey}
 use Rattle.bats_script.specs.declared.script_end.ScriptEnd.{ScriptEnd}

@@ -10,8 +10,9 @@ use Rattle.toml.specs.Data.{Data, string, integer, float, boolean, datetime, arr
 use Rattle.bats_model.specs.Session.{SessionData, symbol_count, max_symbols}
 use Rattle.bats_script.specs.ScriptValues.{each, before, item_count, number_between, two_in, two_numbers, link_of, links_of, seeds_of, hex_bytes}
 use Rattle.bats_script.specs.Script.{needs, ◌>>=◌, value_at, known, parameters_of, events_at, session_of, whole, script_from, script_of, IsUnlessMemory}
-use Rattle.bats_script.specs.Sound.{IsLink, IsSound}
-use Rattle.bats_script.specs.declared.event.Event.{Event}
+use Rattle.bats_world.specs.World.{IsLink}
+use Rattle.bats_script.specs.Sound.{IsSound}
+use Rattle.bats_world.specs.declared.event.Event.{Event}
 use Rattle.bats_script.specs.declared.parameters.Parameters.{Parameters}
 use Rattle.bats_script.specs.declared.script.Script.{Script}
 use Rattle.bats_script.specs.declared.script_end.ScriptKey.TheVariants as keys

@@ -13,8 +13,8 @@ use Rattle.toml.specs.declared.value.Value.{Value, Array}
 use Rattle.toml.proofs.Views.{Entry, table_get, view-Array}
 use Rattle.bats_script.specs.ScriptValues.{within, among, two_in, number_between, item_count, member_count, numbers_at, event_in, each, seed_of, seeds_of, link_of, links_of}
 use Rattle.std.proofs.lemmas.Bool.{cond-true, cond-false, le-leb}
-use Rattle.bats_script.specs.declared.event.Event.{Event}
-use Rattle.bats_script.specs.declared.event.Event.TheVariants.{Send, Mix, Give}
+use Rattle.bats_world.specs.declared.event.Event.{Event}
+use Rattle.bats_world.specs.declared.event.Event.TheVariants.{Send, Mix, Give}
 
 -- ---- numbers
 

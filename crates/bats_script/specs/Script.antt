@@ -6,7 +6,7 @@ use Rattle.toml.specs.Data.{Data, as_bool, Members, no_members, member, get_memb
 use Rattle.toml.specs.Parse.{parse_document}
 use Rattle.bats_model.specs.Session.{SessionData, symbol_count, max_symbols}
 use Rattle.bats_script.specs.ScriptValues.{number_between, seed_of, hex_bytes, seeds_of, links_of, events_of}
-use Rattle.bats_script.specs.declared.event.Event.{Event}
+use Rattle.bats_world.specs.declared.event.Event.{Event}
 use Rattle.bats_script.specs.declared.parameters.Parameters.{Parameters}
 use Rattle.bats_script.specs.declared.script.Script.{Script}
 use Rattle.bats_script.specs.declared.script_end.ScriptKey.{ScriptKey}

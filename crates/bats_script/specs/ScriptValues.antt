@@ -4,8 +4,8 @@ use Rattle.std.specs.Option.{option_and_then, option_or, option_zip}
 use Rattle.std.specs.Result.{result_ok}
 use Rattle.hex.specs.Hex.{decode_of, decode_sized}
 use Rattle.toml.specs.Data.{Data, string, integer, array, table, Items, no_items, item, Members, no_members, member, get_member}
-use Rattle.bats_script.specs.declared.event.Event.{Event}
-use Rattle.bats_script.specs.declared.event.Event.TheVariants.{Send, Mix, Give}
+use Rattle.bats_world.specs.declared.event.Event.{Event}
+use Rattle.bats_world.specs.declared.event.Event.TheVariants.{Send, Mix, Give}
 
 -- the number, if it is in this range
 unfoldable pub among : ℕ → ℕ → ℕ → Option ℕ

@@ -1,6 +1,6 @@
 ghost use Rattle.std.specs.Prelude.{◌≡◌, [], ◌∷◌, ◌++◌, ◌<◌, length, slice_get, OnOk, OnErr};
 
-use crate::event::Event;
+use bats_world::Event;
 use std::alloc::{AllocError, Global};
 use std::marker::Model;
 
@@ -12,7 +12,7 @@ pub struct Events {
 
 impl Model for Events {
     ghost use Rattle.std.specs.Prelude.{List};
-    ghost use Rattle.bats_script.specs.declared.event.Event.{Event};
+    ghost use Rattle.bats_world.specs.declared.event.Event.{Event};
 
     ghost Value = { List Event };
 

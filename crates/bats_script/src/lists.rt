@@ -5,10 +5,9 @@ ghost use Rattle.bats_script.specs.ScriptValues.{each, seed_of, seeds_of, link_o
 ghost use Rattle.bats_script.specs.Script.{needs, IsUnlessMemory};
 
 use crate::events::Events;
-use crate::links::Links;
 use crate::script_end::{ScriptEnd, ScriptKey};
-use crate::seeds::Seeds;
 use crate::values::{event_of, seed_of, two_numbers};
+use bats_world::{Links, Seeds};
 use std::alloc::Global;
 use toml::Value;
 

@@ -10,13 +10,12 @@ ghost use Rattle.bats_script.specs.Sound.{IsSound};
 ghost use Rattle.bats_script.specs.steps.Ranges.{AreWithin};
 
 use crate::events::Events;
-use crate::links::Links;
 use crate::lists::{events_of, links_of, seeds_of};
 use crate::parameters::{Parameters, parameters_in, session_of};
 use crate::script::Script;
 use crate::script_end::{ScriptEnd, ScriptKey};
-use crate::seeds::Seeds;
 use bats_model::Bytes;
+use bats_world::{Links, Seeds};
 use hex::FromHexError;
 use std::alloc::Global;
 use toml::{Table, Value};

@@ -1,5 +1,6 @@
-use crate::{Events, Links, Seeds};
+use crate::Events;
 use bats_model::{Bytes, Session};
+use bats_world::{Links, Seeds};
 
 /// A network's session, file, relays and links, and what happens in it.
 #[derive(Debug, Drop)]

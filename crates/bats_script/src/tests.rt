@@ -1,4 +1,5 @@
-use crate::{Event, ScriptEnd, ScriptKey, key_bytes, key_word, read_script, trial_file};
+use crate::{ScriptEnd, ScriptKey, key_bytes, key_word, read_script, trial_file};
+use bats_world::Event;
 use std::alloc::Global;
 use std::test::Fail;
 

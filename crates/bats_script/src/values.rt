@@ -3,7 +3,7 @@ ghost use Rattle.std.specs.Prelude.{◌≡◌, ◌<◌, ◌+◌, option_map, len
 ghost use Rattle.toml.specs.View.{view, array_view, table_view};
 ghost use Rattle.bats_script.specs.ScriptValues.{within, among, numbers_at, number_between, seed_of, two_in, two_numbers, event_in, event_of};
 
-use crate::event::Event;
+use bats_world::Event;
 use hex::FromHex;
 use toml::{Table, Value};
 
