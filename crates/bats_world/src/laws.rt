@@ -19,8 +19,8 @@ pub fn honest_packets_agree()
         → All (HasShape state.session) (received_by node state.given) }
 {}
 
-/// No event leads from the opening state to itself, and one event more from a reached state to a reached state, of the
-/// same session, file, seeds and links.
+/// The opening state is reached, by no event at all, and one event more leads from a reached state to a reached state, of
+/// the same session, file, seeds and links.
 pub fn events_lead_on()
     ensures opening { (session : SessionData) (file : List ℕ) (seeds : List (List ℕ)) (links : List (ℕ × ℕ))
         → IsReached (opening session file seeds links) }

@@ -229,6 +229,10 @@ impl World {
         ensures bound { IfOk result (λ solved. (state : NetworkState) → StandsFor state self → length solved.plan
             ≤ row_count self.sink.held.batches
             * (largest_degree state.session (received_by (sink_of state) state.given) + solved.inactive)) }
+        ensures steps { (state : NetworkState) (list : List ℕ) → StandsFor state self
+            → IsInactiveList state.session (received_by (sink_of state) state.given) list → steps.new ≤ steps.old
+            + row_count self.sink.held.batches
+            * (largest_degree state.session (received_by (sink_of state) state.given) + length list) }
         ensures coef_steps_rise { coef_steps.old ≤ coef_steps.new }
         ensures steps_rise { steps.old ≤ steps.new }
     {
