@@ -66,7 +66,7 @@ HasShape-source session file batch column range f = record {
   payload_bytes = coded_payload-lt session file batch column f.bytes;
 }
 
-Agrees-source : (session : SessionData) (file : List ℕ) (batch column : ℕ) → IsFile session file → column < session.m
+pub Agrees-source : (session : SessionData) (file : List ℕ) (batch column : ℕ) → IsFile session file → column < session.m
     → Agrees session file (source_packet session file batch column)
 Agrees-source session file batch column f low =
     let number_is = number-batch_of session batch in

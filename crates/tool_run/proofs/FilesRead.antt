@@ -1,13 +1,19 @@
 -- One read after another.
-use Rattle.std.proofs.Common.{◌≡◌, ℕ, ◌+◌, ◌-◌, ◌≤◌, List, length, Option, Result, Err, Vec, Global, sym, ◌∙◌, subst, arith}
+use Rattle.std.proofs.Common.{◌≡◌, ℕ, ◌+◌, ◌-◌, ◌≤◌, List, length, length-append, Option, None, Some, Result, Err, Vec, Global, sym, ◌∙◌, subst, arith}
 use Rattle.std.specs.Result.{IsErrAnd}
 use Rattle.std.proofs.lemmas.Result.{err_from_is_err_and}
 use Rattle.bats_io.specs.Faults.{Rose}
 use Rattle.tool_run.specs.declared.stop.Stop.{Stop}
 use Rattle.tool_run.specs.declared.stop.Stop.TheVariants as stops
 use Rattle.bats_io.specs.Streams.{InputState, IsRead}
-use Rattle.bats_io.proofs.ReadLemmas.{ReadsAtMost-after}
+use Rattle.bats_io.proofs.ReadLemmas.{told_or, ReadsAtMost-after}
 use Rattle.tool_run.specs.Reads.{Reads, ReadsPiece}
+
+-- an input is at least as long as what was read of it
+pub length-told_or : (a b : Option (List ℕ)) (bytes : List ℕ) → IsRead a b bytes → length bytes ≤ length (told_or a bytes)
+unfolding told_or
+length-told_or None b bytes p = omega arith
+length-told_or (Some told) b bytes p = rw p.2 (simp length-append (omega arith))
 
 -- what a piece that could not be read leaves
 as_far : (a b c : InputState) (most room : ℕ) (file file' : List ℕ) (e : Stop)

@@ -6,3 +6,4 @@ pub mod Outcomes
 pub mod Writing
 pub mod Ranges
 pub mod Loops
+pub mod Unread

@@ -95,6 +95,7 @@ finished p i before after statuses.Limit o f = f
 finished p i before after statuses.ReadFault o f = absurd o
 finished p i before after statuses.WriteFault o f = absurd o
 finished p i before after statuses.Memory o f = absurd o
+finished p i before after statuses.Script o f = f
 
 finishes : (p : Promise) (i : List ℕ) (x y : Ends) (o n m : OutputState) (c d : Counters) (finish : Finish) → Completes p i x y c d finish → IsFlushed y.output o
     → Reported n m (string_bytes finish.line) → Finishes p i (state x n c) (state_with y o m d) finish.status

@@ -28,14 +28,18 @@ pub record IsFrontOfEnding (ends : List ℕ → Ending → Type 0) (input part :
 abbrev pub IsBegun : (List ℕ → Ending → Type 0) → List ℕ → List ℕ → Type 0
 IsBegun ends input part = (part ≡ []) ⊎ IsFrontOfEnding ends input part
 
--- a command that reads nothing, and always ends so
-abbrev pub reads_nothing : Ending → Promise
-reads_nothing end = record {
-  ends = λ input ending. ending ≡ end;
+-- a command that reads nothing, and ends in one of these ways
+abbrev pub takes_no_input : (Ending → Type 0) → Promise
+takes_no_input is_end = record {
+  ends = λ input ending. is_end ending;
   reads = λ before after. ReadsAtMost before after 0;
-  partly = IsBegun (λ input ending. ending ≡ end);
+  partly = IsBegun (λ input ending. is_end ending);
   partly_read = λ before after part. ⊥;
 }
+
+-- a command that reads nothing, and always ends so
+abbrev pub reads_nothing : Ending → Promise
+reads_nothing end = takes_no_input (λ ending. ending ≡ end)
 
 -- a command that reads at most so many bytes and then writes, and ends as the input says
 abbrev pub reads_file : ℕ → (List ℕ → Ending) → Promise

@@ -13,3 +13,4 @@ code_of statuses.Limit = 5
 code_of statuses.ReadFault = 6
 code_of statuses.WriteFault = 7
 code_of statuses.Memory = 8
+code_of statuses.Script = 9

@@ -14,8 +14,8 @@ pub enum Status {
     Usage = 3,
     /// The input is no packet file.
     Input = 4,
-    /// The file has more than 4,096 symbols, the input goes on after 1,048,576 records, or a packet is new when 8,192 are
-    /// kept.
+    /// The file has more than 4,096 symbols, the input goes on after 1,048,576 records, a packet is new when 8,192 are
+    /// kept, a script has more than 4,194,304 bytes, or one packet more would be made when a pool has 65,536.
     Limit = 5,
     /// A read of the input failed.
     ReadFault = 6,
@@ -23,6 +23,8 @@ pub enum Status {
     WriteFault = 7,
     /// Memory ran out.
     Memory = 8,
+    /// A script has a wrong key, or an event that can't take place.
+    Script = 9,
 }
 
 impl Status {

@@ -132,7 +132,7 @@ pub record HasSolved (session : SessionData) (packets : List Packet) (answer : A
   pub worked : d.payloads ≤ c.payloads + answer_work session packets (length inactive)
 
 -- the operations of all offers and of the plan
-sum_of_work : (first mid last plan offers most : ℕ) → mid ≤ first + offers → plan ≤ most → last ≡ mid + plan → last ≤ first + (offers + most)
+pub sum_of_work : (first mid last plan offers most : ℕ) → mid ≤ first + offers → plan ≤ most → last ≡ mid + plan → last ≤ first + (offers + most)
 sum_of_work first mid last plan offers most h k e = omega arith
 
 pub HasSolved-solved : (packets : List Packet) (decoder : DecoderData) (answer : Answer) (received kept told plan mid : ℕ) (c d : Counters)
@@ -276,7 +276,8 @@ module _ (ends : List ℕ → Ending → Type 0) (intake : Intake) (c d : Counte
 
 -- ---- what is told of the packets of the whole input
 
-is_of_answer : (answer : Answer) → IsOfEnding (answer_status answer)
+-- an answer's status is that of an ending
+pub is_of_answer : (answer : Answer) → IsOfEnding (answer_status answer)
 is_of_answer (File file) = tt
 is_of_answer Inconsistent = tt
 is_of_answer (NeedMore at_symbol first second) = tt

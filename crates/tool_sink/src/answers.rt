@@ -78,8 +78,8 @@ fn answer_line(
     }
 }
 
-// The status of an answer.
-fn status_of_answer(answer: &Answer) -> Status
+/// The status of an answer.
+pub fn status_of_answer(answer: &Answer) -> Status
     ensures { result ≡ answer_status answer.now }
 {
     match answer {

@@ -7,5 +7,6 @@ mod checking;
 mod receiving;
 mod sinking;
 
+pub use answers::{finish_of, status_of_answer};
 pub use checking::check;
-pub use sinking::sink;
+pub use sinking::{sink, write_answer};

@@ -33,8 +33,8 @@ fn write_pair<O: Sink>(output: &mut O, both: bool, first: &[u8], second: &[u8]) 
     write_bytes(output, second)
 }
 
-// Writes what an answer gives: the file, or both files where they are asked for, or nothing.
-fn write_answer<O: Sink>(output: &mut O, both: bool, answer: &Answer) -> Result<(), Stop>
+/// Writes what an answer gives: the file, or both files where they are asked for, or nothing.
+pub fn write_answer<O: Sink>(output: &mut O, both: bool, answer: &Answer) -> Result<(), Stop>
     ensures { Writes (O.state output.old) (O.state output.new)
         (answer_output both answer.now) (result_err result) }
 {

@@ -5,6 +5,7 @@ use Rattle.std.specs.Result.{IsErrAnd}
 use Rattle.bats_io.specs.Streams.{InputState, OutputState, IsRead, ReadsAtMost}
 use Rattle.bats_io.proofs.Appended.{appended-nil}
 use Rattle.bats_io.proofs.ReadLemmas.{told_or, IsTold-told_or, IsTold-read}
+use Rattle.tool_run.proofs.FilesRead.{length-told_or}
 use Rattle.bats_model.specs.Session.{SessionData, symbols_of}
 use Rattle.tool_run.specs.declared.finish.Finish.{Finish}
 use Rattle.tool_run.specs.declared.status.Status.TheVariants as statuses
@@ -31,12 +32,6 @@ nothing : (o : SourceOptions) (file : List ℕ) (x : OutputState) → WritesPart
 nothing o file x = record { part = []; is_part = inl refl; written = sym (appended-nil x.written) }
 
 -- ---- the reading of the file
-
--- the file is at least as long as what was read of it
-length-told_or : (a b : Option (List ℕ)) (bytes : List ℕ) → IsRead a b bytes → length bytes ≤ length (told_or a bytes)
-unfolding told_or
-length-told_or None b bytes p = omega arith
-length-told_or (Some told) b bytes p = rw p.2 (simp length-append (omega arith))
 
 ReadsAtMost-more : (a b : Option (List ℕ)) (m n : ℕ) → ReadsAtMost a b m → m ≤ n → ReadsAtMost a b n
 ReadsAtMost-more a b m n p h = record { bytes = p.bytes; read = p.read; within = omega (arith, p.within) }

@@ -1,0 +1,12 @@
+pub mod ReplayKept
+pub mod ReplayRefusals
+pub mod ScriptsRead
+pub mod EventsPlayed
+pub mod PoolWritten
+pub mod NetworkSolved
+pub mod ArrivedPackets
+pub mod SentPackets
+pub mod TakenPackets
+pub mod ToldTrials
+pub mod TrialSeeds
+pub mod TrialSessions
