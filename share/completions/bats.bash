@@ -15,15 +15,21 @@ _bats_options() { # the command
         source) echo --m --t --seed --batches --table --from --systematic ;;
         relay) echo --seed --rule --count ;;
         sink) echo --workers --both ;;
+        replay) echo --workers --both --pool ;;
         check) echo --workers ;;
+        trial) echo --number --m --t --length --batches --relays --loss --table --workers ;;
     esac
 }
 
-# The options of the command that aren't there yet, since none may come twice.
+# The options of the command that may still come: none twice, and of `replay` not both flags.
 _bats_options_left() {
-    local option
+    local option words=" ${COMP_WORDS[*]:2:COMP_CWORD-2} "
+    if [ "${COMP_WORDS[1]}" = replay ]; then
+        words=${words/ --both / --both --pool }
+        words=${words/ --pool / --both --pool }
+    fi
     for option in $(_bats_options "${COMP_WORDS[1]}"); do
-        [[ " ${COMP_WORDS[*]:2:COMP_CWORD-2} " == *" $option "* ]] || echo "$option"
+        [[ $words == *" $option "* ]] || echo "$option"
     done
 }
 
@@ -35,10 +41,10 @@ _bats() {
             compopt -o default
             return
             ;;
-        --m | --t | --seed | --batches | --from | --count | --workers) return ;;
+        --m | --t | --seed | --batches | --from | --count | --workers | --number | --length | --relays | --loss) return ;;
     esac
     if [ "$COMP_CWORD" -eq 1 ]; then
-        choices="source relay sink check show help"
+        choices="source relay sink replay check show trial help"
     elif ! choices=$(_bats_values "$before"); then
         choices=$(_bats_options_left)
     fi

@@ -8,11 +8,12 @@ ghost use Rattle.bats_io.specs.Streams.{InputState};
 ghost use Rattle.bats_tool.specs.Promises.{help_ending, promise_of, usage_ending};
 
 use bats_io::{Sink, Source};
-use bats_words::{Command, SourceOptions, WordsEnd, help_text, parse};
+use bats_words::{Command, SourceOptions, TrialOptions, WordsEnd, help_text, parse};
 use std::alloc::Global;
 use std::sync::ledger::Ledger;
 use std::thread::Threads;
 use tool_records::Counters;
+use tool_replay::{replay, trial};
 use tool_run::{Finish, Status, Stop, conclude, refuse, write_bytes};
 use tool_sink::{check, sink};
 use tool_source::source;
@@ -84,8 +85,40 @@ fn attempt<R: Threads + Sync, S: Source, O: Sink, C: Ledger, L: Ledger>(
         Ok(Command::Sink { workers, both }) => {
             sink(rt, alloc, workers, both, input, output, counters)
         }
+        Ok(
+            Command::Replay {
+                workers,
+                both,
+                pool,
+            },
+        ) => replay(rt, alloc, workers, both, pool, input, output, counters),
         Ok(Command::Check { workers }) => check(rt, alloc, workers, input, output, counters),
         Ok(Command::Show) => show(alloc, input, output),
+        Ok(
+            Command::Trial {
+                number,
+                m,
+                t,
+                table,
+                length,
+                batches,
+                relays,
+                loss,
+                workers,
+            },
+        ) => {
+            let options = TrialOptions {
+                number,
+                m,
+                t,
+                table,
+                length,
+                batches,
+                relays,
+                loss,
+            };
+            trial(rt, alloc, &options, workers, output, counters)
+        }
         Ok(Command::Help) => help(alloc, output),
         Err(WordsEnd::Usage) => usage(alloc),
         Err(WordsEnd::Memory) => Err(Stop::Memory),

@@ -5,8 +5,11 @@ mod answers;
 mod every_file;
 mod faults;
 mod limits;
+mod networks;
 mod refusals;
 mod relays;
+mod round_trips;
+mod scripts;
 
 use crate::run_over;
 use bats_io::{MemSink, MemSource};

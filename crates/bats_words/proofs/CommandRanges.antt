@@ -1,5 +1,5 @@
 -- The values of the command that words are stand in their ranges.
-use Rattle.std.proofs.Common.{ℕ, ◌≡◌, ◌≤◌, ◌<◌, ◌*◌, Bool, true, false, ◌&&◌, cond, List, [], ◌∷◌, length, sym, ◌∙◌, subst, Option, None, Some, Result, Ok, Err, arith, rules}
+use Rattle.std.proofs.Common.{ℕ, ◌≡◌, ◌≤◌, ◌<◌, ◌*◌, Bool, true, false, not, ◌&&◌, cond, List, [], ◌∷◌, length, sym, ◌∙◌, subst, Option, None, Some, Result, Ok, Err, arith, rules}
 use Rattle.std.proofs.lemmas.Bool.Decides.{nat_tests}
 use Rattle.std.specs.Prelude.{codes, nat_le, IfOk}
 use Rattle.std.specs.Option.{option_and_then}
@@ -11,13 +11,13 @@ use Rattle.hex.specs.Hex.{decode_sized}
 use Rattle.hex.specs.declared.error.FromHexError.{FromHexError}
 use Rattle.hex.proofs.HexLemmas.{decode_sized-ok, decode_sized-twice, decode_of-ok}
 use Rattle.bats_words.specs.declared.command.Command.{Command}
-use Rattle.bats_words.specs.declared.command.Command.TheVariants.{Source, Relay, Sink, Check, Show, Help}
+use Rattle.bats_words.specs.declared.command.Command.TheVariants.{Source, Relay, Sink, Replay, Check, Show, Trial, Help}
 use Rattle.bats_words.specs.declared.words_end.WordsEnd.{WordsEnd}
 use Rattle.bats_words.specs.Answer.{IsAnswer}
 use Rattle.bats_words.specs.Options.{IsSeed, InRanges}
 use Rattle.bats_words.specs.WordItems.{KnownNames, read_items, value_of, is_there}
 use Rattle.bats_words.specs.WordValues.{number_in, is_number_word, rule_of, seed_of}
-use Rattle.bats_words.specs.Words.{command_of, read_by, read_or, source_of, source_names, relay_of, relay_names, sink_of, sink_names, check_of, check_names, show_of, show_names, help_of, help_names}
+use Rattle.bats_words.specs.Words.{command_of, read_by, read_or, source_of, source_names, relay_of, relay_names, sink_of, sink_names, replay_of, replay_names, check_of, check_names, show_of, show_names, trial_of, trial_names, help_of, help_names}
 use Rattle.bats_words.proofs.CommandWords.{Builder}
 
 -- ---- values
@@ -112,6 +112,16 @@ sink_of-ranges value flag command h =
     let r = read_or-range 1 1 64 workers (value (codes "--workers")) (omega arith) (omega arith) workers_is in
     subst (λ (c : Command). InRanges c) same (record { low = r.0; high = r.1 }))
 
+pub replay_of-ranges : IsWithin replay_of
+unfolding replay_of
+replay_of-ranges value flag command h =
+    option_and_then_some _ (read_or 1 (number_in 1 64) (value (codes "--workers"))) command h (λ workers workers_is rest.
+    let both = flag (codes "--both") in
+    let pool = flag (codes "--pool") in
+    let same : Replay workers both pool ≡ command = (cond_some (not (both && pool)) (Replay workers both pool) command rest).1 in
+    let r = read_or-range 1 1 64 workers (value (codes "--workers")) (omega arith) (omega arith) workers_is in
+    subst (λ (c : Command). InRanges c) same (record { low = r.0; high = r.1 }))
+
 pub check_of-ranges : IsWithin check_of
 unfolding check_of
 check_of-ranges value flag command h =
@@ -125,6 +135,48 @@ unfolding show_of
 show_of-ranges value flag command h =
     let same : Show ≡ command = cc in
     subst (λ (c : Command). InRanges c) same tt
+
+pub trial_of-ranges : IsWithin trial_of
+unfolding trial_of
+trial_of-ranges value flag command h =
+    option_and_then_some _ (option_and_then (number_in 0 18446744073709551615) (value (codes "--number"))) command h (λ number number_is rest0.
+    option_and_then_some _ (option_and_then (number_in 1 32) (value (codes "--m"))) command rest0 (λ m m_is rest1.
+    option_and_then_some _ (option_and_then (number_in 1 2048) (value (codes "--t"))) command rest1 (λ t t_is rest2.
+    option_and_then_some _ (option_and_then (number_in 0 8388608) (value (codes "--length"))) command rest2 (λ file_length file_length_is rest3.
+    option_and_then_some _ (option_and_then (number_in 0 8192) (value (codes "--batches"))) command rest3 (λ batches batches_is rest4.
+    option_and_then_some _ (option_and_then (number_in 0 8) (value (codes "--relays"))) command rest4 (λ relays relays_is rest5.
+    option_and_then_some _ (option_and_then (number_in 0 100) (value (codes "--loss"))) command rest5 (λ loss loss_is rest6.
+    option_and_then_some _ (read_or 0 (number_in 0 1) (value (codes "--table"))) command rest6 (λ table table_is rest7.
+    option_and_then_some _ (read_or 1 (number_in 1 64) (value (codes "--workers"))) command rest7 (λ workers workers_is rest8.
+    let trial = Trial number m t table file_length batches relays loss workers in
+    let w = cond_some (nat_le (batches * m) 8192 && nat_le file_length (4096 * t)) trial command rest8 in
+    let same : trial ≡ command = w.1 in
+    let few_packets : batches * m ≤ 8192 = grind (arith, nat_tests, rules, w.0) in
+    let few_symbols : file_length ≤ 4096 * t = grind (arith, nat_tests, rules, w.0) in
+    let rm = option_range 1 32 m (value (codes "--m")) m_is in
+    let rt = option_range 1 2048 t (value (codes "--t")) t_is in
+    let rl = option_range 0 8388608 file_length (value (codes "--length")) file_length_is in
+    let rb = option_range 0 8192 batches (value (codes "--batches")) batches_is in
+    let rr = option_range 0 8 relays (value (codes "--relays")) relays_is in
+    let rloss = option_range 0 100 loss (value (codes "--loss")) loss_is in
+    let rtab = read_or-range 0 0 1 table (value (codes "--table")) (omega arith) (omega arith) table_is in
+    let workers_range = read_or-range 1 1 64 workers (value (codes "--workers")) (omega arith) (omega arith) workers_is in
+    subst (λ (c : Command). InRanges c) same (
+      record {
+        m_low = rm.0;
+        m_high = rm.1;
+        t_low = rt.0;
+        t_high = rt.1;
+        table_high = omega (arith, rtab.1);
+        few_bytes = rl.1;
+        few_symbols = few_symbols;
+        batches_high = rb.1;
+        few_packets = few_packets;
+        relays_high = rr.1;
+        loss_high = rloss.1;
+      },
+      record { low = workers_range.0; high = workers_range.1 },
+    ))))))))))
 
 pub help_of-ranges : IsWithin help_of
 unfolding help_of
@@ -162,6 +214,8 @@ command_of-ranges (name ∷ words) command h =
     by_choice _ _ _ command (read_by-ranges source_names source_of source_of-ranges words command) (
     by_choice _ _ _ command (read_by-ranges relay_names relay_of relay_of-ranges words command) (
     by_choice _ _ _ command (read_by-ranges sink_names sink_of sink_of-ranges words command) (
+    by_choice _ _ _ command (read_by-ranges replay_names replay_of replay_of-ranges words command) (
     by_choice _ _ _ command (read_by-ranges check_names check_of check_of-ranges words command) (
     by_choice _ _ _ command (read_by-ranges show_names show_of show_of-ranges words command) (
-    by_choice _ _ _ command (read_by-ranges help_names help_of help_of-ranges words command) (no_command command)))))) h
+    by_choice _ _ _ command (read_by-ranges trial_names trial_of trial_of-ranges words command) (
+    by_choice _ _ _ command (read_by-ranges help_names help_of help_of-ranges words command) (no_command command)))))))) h

@@ -15,9 +15,9 @@ use Rattle.clap.proofs.WalkLemmas.{first_value-rows, one_text-rows}
 use Rattle.bats_words.specs.Answer.{IsAnswer}
 use Rattle.bats_words.specs.WordItems.{KnownNames, Item, is_among, read_items, value_of, is_there}
 use Rattle.bats_words.specs.WordValues.{number_in}
-use Rattle.bats_words.specs.Words.{read_by, read_or, source_of, source_names, relay_of, relay_names, sink_of, sink_names, check_of, check_names, show_of, help_of}
-use Rattle.bats_words.specs.steps.Matched.{IsFlag, is_set, value_in, source_given, sink_given, check_given}
-use Rattle.bats_words.specs.steps.Rules.{source_app, relay_app, sink_app, check_app}
+use Rattle.bats_words.specs.Words.{read_by, read_or, source_of, source_names, relay_of, relay_names, sink_of, sink_names, replay_of, replay_names, check_of, check_names, show_of, trial_of, trial_names, help_of}
+use Rattle.bats_words.specs.steps.Matched.{IsFlag, is_set, value_in, source_given, sink_given, replay_given, check_given, trial_given}
+use Rattle.bats_words.specs.steps.Rules.{source_app, relay_app, sink_app, replay_app, check_app, trial_app}
 use Rattle.bats_words.specs.declared.command.Command.{Command}
 use Rattle.bats_words.specs.declared.command.Command.TheVariants.{Show, Help}
 use Rattle.bats_words.specs.declared.words_end.WordsEnd.{WordsEnd}
@@ -228,6 +228,39 @@ sink_of-items matches items finds =
 pub sink-both : (matches : ArgMatches) (items : List Item) → Finds sink_names sink_shape.rules items matches → IsFlag matches (codes "--both")
 sink-both matches items finds = is_flag_at sink_names sink_shape.rules items matches finds (codes "--both") refl refl
 
+abbrev pub replay_shape : Shape
+replay_shape = (built replay_app).top
+
+replay-knows : Knows replay_shape.rules replay_names
+replay-knows = record {
+  options = among_all (TakesOption replay_shape.rules) replay_names.options (
+    record { name = codes "workers"; defaults = codes "1" ∷ []; not_dashes = refl; long = refl; by_long = refl; by_id = refl },
+    tt,
+  );
+  flags = among_all (TakesFlag replay_shape.rules) replay_names.flags (
+    record { name = codes "both"; not_dashes = refl; long = refl; by_long = refl },
+    (record { name = codes "pool"; not_dashes = refl; long = refl; by_long = refl }, tt),
+  );
+}
+
+pub replay-fits : Fits replay_names replay_app replay_shape
+replay-fits = record { simple = refl; whole = λ words. refl; built_to = refl; knows = replay-knows; defaults = refl; valid = λ rows. refl }
+
+pub replay_of-items : (matches : ArgMatches) (items : List Item) → Finds replay_names replay_shape.rules items matches → replay_given (value_in matches) (is_set matches) ≡ of_items replay_of items
+unfolding replay_of replay_given number_in
+replay_of-items matches items finds =
+    rw (
+      default_at replay_names replay_shape.rules items matches finds (codes "--workers") refl (codes "1") 1 (number_in 1 64) refl refl,
+      flag_at replay_names replay_shape.rules items matches finds (codes "--both") refl refl,
+      flag_at replay_names replay_shape.rules items matches finds (codes "--pool") refl refl,
+    ) refl
+
+pub replay-both : (matches : ArgMatches) (items : List Item) → Finds replay_names replay_shape.rules items matches → IsFlag matches (codes "--both")
+replay-both matches items finds = is_flag_at replay_names replay_shape.rules items matches finds (codes "--both") refl refl
+
+pub replay-pool : (matches : ArgMatches) (items : List Item) → Finds replay_names replay_shape.rules items matches → IsFlag matches (codes "--pool")
+replay-pool matches items finds = is_flag_at replay_names replay_shape.rules items matches finds (codes "--pool") refl refl
+
 abbrev pub check_shape : Shape
 check_shape = (built check_app).top
 
@@ -251,6 +284,57 @@ check_of-items matches items finds =
 pub show_of-items : (items : List Item) → of_items show_of items ≡ Some Show
 unfolding show_of
 show_of-items items = refl
+
+abbrev pub trial_shape : Shape
+trial_shape = (built trial_app).top
+
+trial-knows : Knows trial_shape.rules trial_names
+trial-knows = record {
+  options = among_all (TakesOption trial_shape.rules) trial_names.options (
+    record { name = codes "number"; defaults = []; not_dashes = refl; long = refl; by_long = refl; by_id = refl },
+    (
+      record { name = codes "m"; defaults = []; not_dashes = refl; long = refl; by_long = refl; by_id = refl },
+      (
+        record { name = codes "t"; defaults = []; not_dashes = refl; long = refl; by_long = refl; by_id = refl },
+        (
+          record { name = codes "length"; defaults = []; not_dashes = refl; long = refl; by_long = refl; by_id = refl },
+          (
+            record { name = codes "batches"; defaults = []; not_dashes = refl; long = refl; by_long = refl; by_id = refl },
+            (
+              record { name = codes "relays"; defaults = []; not_dashes = refl; long = refl; by_long = refl; by_id = refl },
+              (
+                record { name = codes "loss"; defaults = []; not_dashes = refl; long = refl; by_long = refl; by_id = refl },
+                (
+                  record { name = codes "table"; defaults = codes "0" ∷ []; not_dashes = refl; long = refl; by_long = refl; by_id = refl },
+                  (record { name = codes "workers"; defaults = codes "1" ∷ []; not_dashes = refl; long = refl; by_long = refl; by_id = refl }, tt),
+                ),
+              ),
+            ),
+          ),
+        ),
+      ),
+    ),
+  );
+  flags = among_all (TakesFlag trial_shape.rules) [] tt;
+}
+
+pub trial-fits : Fits trial_names trial_app trial_shape
+trial-fits = record { simple = refl; whole = λ words. refl; built_to = refl; knows = trial-knows; defaults = refl; valid = λ rows. refl }
+
+pub trial_of-items : (matches : ArgMatches) (items : List Item) → Finds trial_names trial_shape.rules items matches → trial_given (value_in matches) (is_set matches) ≡ of_items trial_of items
+unfolding trial_of trial_given number_in
+trial_of-items matches items finds =
+    rw (
+      required_at trial_names trial_shape.rules items matches finds (codes "--number") refl refl,
+      required_at trial_names trial_shape.rules items matches finds (codes "--m") refl refl,
+      required_at trial_names trial_shape.rules items matches finds (codes "--t") refl refl,
+      required_at trial_names trial_shape.rules items matches finds (codes "--length") refl refl,
+      required_at trial_names trial_shape.rules items matches finds (codes "--batches") refl refl,
+      required_at trial_names trial_shape.rules items matches finds (codes "--relays") refl refl,
+      required_at trial_names trial_shape.rules items matches finds (codes "--loss") refl refl,
+      default_at trial_names trial_shape.rules items matches finds (codes "--table") refl (codes "0") 0 (number_in 0 1) refl refl,
+      default_at trial_names trial_shape.rules items matches finds (codes "--workers") refl (codes "1") 1 (number_in 1 64) refl refl,
+    ) refl
 
 pub help_of-items : (items : List Item) → of_items help_of items ≡ Some Help
 unfolding help_of

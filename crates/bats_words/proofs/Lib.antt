@@ -1,4 +1,5 @@
 pub mod ListTests
+pub mod OtherWords
 pub mod CommandWords
 pub mod WordLookups
 pub mod WordNumbers

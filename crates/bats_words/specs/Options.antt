@@ -67,6 +67,9 @@ InRanges (commands.Source m t table systematic seed first batches) =
     HasRanges (source_options m t table systematic seed first batches) × IsSeed seed
 InRanges (commands.Relay seed extra count) = HasCount count × IsSeed seed
 InRanges (commands.Sink workers both) = HasWorkers workers
+InRanges (commands.Replay workers both pool) = HasWorkers workers
 InRanges (commands.Check workers) = HasWorkers workers
 InRanges commands.Show = Unit {0}
+InRanges (commands.Trial number m t table file_length batches relays loss workers) =
+    HasTrialRanges (trial_options number m t table file_length batches relays loss) × HasWorkers workers
 InRanges commands.Help = Unit {0}

@@ -1,11 +1,11 @@
 -- Which words are a command: the first is its name, and the others are its options and flags. A further command is one
 -- more list of names, one more builder, and one more case of `command_of`.
-use Rattle.std.specs.Prelude.{ℕ, Bool, List, [], ◌∷◌, Option, Some, None, option_and_then, if◌then◌else◌, codes}
+use Rattle.std.specs.Prelude.{ℕ, ◌*◌, nat_le, Bool, ◌&&◌, not, List, [], ◌∷◌, Option, Some, None, option_and_then, if◌then◌else◌, codes}
 use Rattle.std.specs.Str.{bytes_eq}
 use Rattle.bats_words.specs.WordItems.{KnownNames, read_items, value_of, is_there}
 use Rattle.bats_words.specs.WordValues.{number_in, rule_of, seed_of}
 use Rattle.bats_words.specs.declared.command.Command.{Command}
-use Rattle.bats_words.specs.declared.command.Command.TheVariants.{Source, Relay, Sink, Check, Show, Help}
+use Rattle.bats_words.specs.declared.command.Command.TheVariants.{Source, Relay, Sink, Replay, Check, Show, Trial, Help}
 
 -- the second step, if the first gave a value
 infixl 10 ◌>>=◌
@@ -70,6 +70,21 @@ sink_of value flag = do
   workers ← read_or 1 (number_in 1 64) (value (codes "--workers"))
   Some (Sink workers (flag (codes "--both")))
 
+-- ---- replay
+
+-- the names of `replay`
+abbrev pub replay_names : KnownNames
+replay_names = record { options = codes "--workers" ∷ []; flags = codes "--both" ∷ codes "--pool" ∷ [] }
+
+-- The command `replay`: how many workers, 1 where the option is not there, whether both files are written and whether the
+-- packets are. Each of these is off where its flag is not there, and they are not both there.
+unfoldable pub replay_of : (List ℕ → Option (List ℕ)) → (List ℕ → Bool) → Option Command
+replay_of value flag = do
+  workers ← read_or 1 (number_in 1 64) (value (codes "--workers"))
+  if not (flag (codes "--both") && flag (codes "--pool"))
+      then Some (Replay workers (flag (codes "--both")) (flag (codes "--pool")))
+      else None
+
 -- ---- check
 
 -- the names of `check`
@@ -92,6 +107,34 @@ show_names = record { options = []; flags = [] }
 unfoldable pub show_of : (List ℕ → Option (List ℕ)) → (List ℕ → Bool) → Option Command
 show_of value flag = Some Show
 
+-- ---- trial
+
+-- the names of `trial`
+abbrev pub trial_names : KnownNames
+trial_names = record {
+  options = codes "--number" ∷ codes "--m" ∷ codes "--t" ∷ codes "--length" ∷ codes "--batches" ∷ codes "--relays" ∷ codes "--loss"
+      ∷ codes "--table" ∷ codes "--workers" ∷ [];
+  flags = [];
+}
+
+-- The command `trial`, in this order: its number, packets of a batch, bytes of a symbol, bytes of the file, how many batches,
+-- how many relays, loss of a hundred, degree table and how many workers. The last two may be left out, and are then 0 and 1.
+-- There are at most 8,192 packets, and at most 4,096 symbols.
+unfoldable pub trial_of : (List ℕ → Option (List ℕ)) → (List ℕ → Bool) → Option Command
+trial_of value flag = do
+  number ← value (codes "--number") >>= number_in 0 18446744073709551615
+  m ← value (codes "--m") >>= number_in 1 32
+  t ← value (codes "--t") >>= number_in 1 2048
+  length ← value (codes "--length") >>= number_in 0 8388608
+  batches ← value (codes "--batches") >>= number_in 0 8192
+  relays ← value (codes "--relays") >>= number_in 0 8
+  loss ← value (codes "--loss") >>= number_in 0 100
+  table ← read_or 0 (number_in 0 1) (value (codes "--table"))
+  workers ← read_or 1 (number_in 1 64) (value (codes "--workers"))
+  if nat_le (batches * m) 8192 && nat_le length (4096 * t)
+      then Some (Trial number m t table length batches relays loss workers)
+      else None
+
 -- ---- help
 
 -- `help` has no names
@@ -111,7 +154,9 @@ command_of (name ∷ words) =
     if bytes_eq name (codes "source") then read_by source_names source_of words
     else if bytes_eq name (codes "relay") then read_by relay_names relay_of words
     else if bytes_eq name (codes "sink") then read_by sink_names sink_of words
+    else if bytes_eq name (codes "replay") then read_by replay_names replay_of words
     else if bytes_eq name (codes "check") then read_by check_names check_of words
     else if bytes_eq name (codes "show") then read_by show_names show_of words
+    else if bytes_eq name (codes "trial") then read_by trial_names trial_of words
     else if bytes_eq name (codes "help") then read_by help_names help_of words
     else None

@@ -36,6 +36,15 @@ pub enum Command {
         /// Whether both files are written where two agree.
         both: bool,
     },
+    /// Carries out the script of a network that is read, and solves for the file from what comes to its sink.
+    Replay {
+        /// How many workers share the solving, 1 to 64.
+        workers: u32,
+        /// Whether both files are written where two agree.
+        both: bool,
+        /// Whether the packets that were made are written in place of the answer; never beside `both`.
+        pool: bool,
+    },
     /// Says what the packets that are read give: a line for each held batch, and one for the answer.
     Check {
         /// How many workers share the solving, 1 to 64.
@@ -43,6 +52,27 @@ pub enum Command {
     },
     /// Writes a line for each record that is read.
     Show,
+    /// Sends a made file through a chain of relays that lose packets, and says whether it can be solved for; reads nothing.
+    Trial {
+        /// The number from which the file, the seeds and the losses are made.
+        number: u64,
+        /// Packets of a batch.
+        m: u8,
+        /// Bytes of a symbol.
+        t: u16,
+        /// The degree table.
+        table: u8,
+        /// Bytes of the file, at most 4,096 symbols.
+        length: u64,
+        /// How many batches the source sends, at most 8,192 packets.
+        batches: u32,
+        /// How many relays stand one behind another, 0 to 8.
+        relays: u32,
+        /// How many packets of a hundred are lost on each hop.
+        loss: u32,
+        /// How many workers share the solving, 1 to 64.
+        workers: u32,
+    },
     /// Writes what the commands are, and reads nothing.
     Help,
 }

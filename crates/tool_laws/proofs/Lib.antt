@@ -1,5 +1,6 @@
 mod OneReading
 mod OneAnswer
+mod OneNetwork
 mod OneRelay
 mod SentPackets
 mod FewKept

@@ -22,7 +22,7 @@ use Rattle.tool_records.proofs.KeptEndings.{no_stop, one_held, one_stop}
 
 -- ---- answers that are alike
 
-alike_lines : (name : List ℕ) (packets kept inactive : ℕ) (answer other : Answer) → AreAlike answer other
+pub alike_lines : (name : List ℕ) (packets kept inactive : ℕ) (answer other : Answer) → AreAlike answer other
     → answer_line name packets kept inactive answer ≡ answer_line name packets kept inactive other
 alike_lines name packets kept inactive (File f) (File g) e = ap (λ (x : List ℕ). answer_line name packets kept inactive (File x)) e
 alike_lines name packets kept inactive Inconsistent Inconsistent h = refl
@@ -35,7 +35,7 @@ alike_lines name packets kept inactive Inconsistent (NeedMore s a b) h = absurd 
 alike_lines name packets kept inactive (NeedMore s a b) (File g) h = absurd h
 alike_lines name packets kept inactive (NeedMore s a b) Inconsistent h = absurd h
 
-alike_statuses : (answer other : Answer) → AreAlike answer other → answer_status answer ≡ answer_status other
+pub alike_statuses : (answer other : Answer) → AreAlike answer other → answer_status answer ≡ answer_status other
 alike_statuses (File f) (File g) e = refl
 alike_statuses Inconsistent Inconsistent h = refl
 alike_statuses (NeedMore s a b) (NeedMore u c d) e = refl
@@ -58,7 +58,7 @@ alike_texts (NeedMore s a b) (File g) h = absurd h
 alike_texts (NeedMore s a b) Inconsistent h = absurd h
 
 -- what is written by `sink` of them is one, but for need-more
-alike_outputs : (both : Bool) (session : SessionData) (packets : List Packet) (inactive : ℕ) (answer other : Answer) → AreAlike answer other
+pub alike_outputs : (both : Bool) (session : SessionData) (packets : List Packet) (inactive : ℕ) (answer other : Answer) → AreAlike answer other
     → ((answer_ending both session packets inactive answer).output ≡ (answer_ending both session packets inactive other).output)
     ⊎ (answer_status answer ≡ statuses.NeedMore)
 alike_outputs both session packets inactive (File f) (File g) e = inl e
@@ -95,7 +95,7 @@ abbrev pub Agree : Ending → Ending → Type 0
 Agree ending other = (ending.status ≡ other.status) × (ending.line ≡ other.line) × (ending.reach ≡ other.reach)
     × (ending.work ≡ other.work) × ((ending.output ≡ other.output) ⊎ (ending.status ≡ statuses.NeedMore))
 
-Agree-same : (ending other : Ending) → ending ≡ other → Agree ending other
+pub Agree-same : (ending other : Ending) → ending ≡ other → Agree ending other
 Agree-same ending other e = (
   ap (λ (x : Ending). x.status) e,
   ap (λ (x : Ending). x.line) e,

@@ -10,6 +10,7 @@ ghost use Rattle.bats_model.specs.Relay.{IsOutputOf};
 ghost use Rattle.bats_model.specs.declared.item.Item.{Item};
 ghost use Rattle.bats_words.specs.declared.command.Command.TheVariants as commands;
 ghost use Rattle.bats_words.specs.declared.source_options.SourceOptions.{SourceOptions};
+ghost use Rattle.bats_words.specs.declared.trial_options.TrialOptions.{TrialOptions};
 ghost use Rattle.bats_words.specs.Options.{HasCount, HasRanges, IsSeed, source_options};
 ghost use Rattle.bats_words.specs.Words.{command_of};
 ghost use Rattle.tool_run.specs.declared.status.Status.TheVariants as statuses;
@@ -19,11 +20,13 @@ ghost use Rattle.tool_source.specs.FileSession.{session_for};
 ghost use Rattle.tool_source.specs.Source.{source_promise};
 ghost use Rattle.tool_sink.specs.Check.{check_promise};
 ghost use Rattle.tool_sink.specs.Sink.{sink_promise};
+ghost use Rattle.tool_replay.specs.Replay.{replay_promise};
+ghost use Rattle.tool_replay.specs.Trial.{trial_promise};
 ghost use Rattle.tool_stream.specs.Relay.{relay_promise};
 ghost use Rattle.tool_stream.specs.Show.{show_promise};
 ghost use Rattle.tool_laws.specs.GivesBack.{GivesBack};
 
-/// A command has one ending on an input, but for `sink` with need-more: there status, notes line, how much is read and
+/// A command has one ending on an input, but for `sink` and `replay` with need-more: there status, notes line, how much is read and
 /// the bound on the work are one, and the two agreeing files that it writes where both are asked for are free.
 pub fn one_ending()
     ensures nothing { (end : Ending) (input : List ℕ) (ending other : Ending)
@@ -41,6 +44,14 @@ pub fn one_ending()
     ensures relay { (seed : List ℕ) (extra : Bool) (count : ℕ) (input : List ℕ) (ending other : Ending)
         → (relay_promise seed extra count).ends input ending → (relay_promise seed extra count).ends input other
         → ending ≡ other }
+    ensures replay { (both : Bool) (input : List ℕ) (ending other : Ending)
+        → (replay_promise both false).ends input ending → (replay_promise both false).ends input other
+        → (ending.status ≡ other.status) × (ending.line ≡ other.line) × (ending.reach ≡ other.reach) × (ending.work ≡ other.work)
+        × ((ending.output ≡ other.output) ⊎ (ending.status ≡ statuses.NeedMore)) }
+    ensures pool { (both : Bool) (input : List ℕ) (ending other : Ending)
+        → (replay_promise both true).ends input ending → (replay_promise both true).ends input other → ending ≡ other }
+    ensures trial { (options : TrialOptions) (input : List ℕ) (ending other : Ending)
+        → (trial_promise options).ends input ending → (trial_promise options).ends input other → ending ≡ other }
 {}
 
 /// On one input `check` and `sink` end with one status, and have read as much of it.

@@ -20,7 +20,18 @@ packet at=32 batch=0 coefs=0100 payload=0102
 packet at=41 batch=0 coefs=0001 payload=0304
 ";
 
-const RUNS: [Calls; 5] = [
+// A script of one packet, which comes.
+const SCRIPT: &[u8] = b"m=1
+t=1
+table=0
+systematic=true
+seed=\"00000000000000000000000000000000\"
+file=\"07\"
+relays=[]
+links=[[0,1]]
+event=[{send=[0,0]},{give=[0,1]}]";
+
+const RUNS: [Calls; 8] = [
     // Two reads give the file, and the third its end. 11 writes for the header, 2 + 1 + 1 for each packet, and the flush.
     Calls {
         words: SMALL,
@@ -70,6 +81,36 @@ const RUNS: [Calls; 5] = [
         reads: 23,
         writes: 64,
         reports: 10,
+    },
+    // One write, and the flush.
+    Calls {
+        words: "replay",
+        input: SCRIPT,
+        output: &[7],
+        notes: "replay: file length=1 packets=1 kept=1 inactive=0\n",
+        reads: 48,
+        writes: 2,
+        reports: 18,
+    },
+    // 11 writes for the header, 2 + 1 + 1 for the packet, and the flush.
+    Calls {
+        words: "replay --pool",
+        input: SCRIPT,
+        output: b"BTS\x01\x01\x80\0\x01\0\0\0\0\0\0\0\x01\0\0\0\0\0\0\0\0\0\0\0\0\0\0\0\0P\0\0\0\0\x01\x07",
+        notes: "replay: file length=1 packets=1 kept=1 inactive=0\n",
+        reads: 48,
+        writes: 16,
+        reports: 18,
+    },
+    // No read. 25 writes for the line, and the flush. The notes are flushed.
+    Calls {
+        words: "trial --number 0 --m 2 --t 1 --length 0 --batches 0 --relays 3 --loss 20",
+        input: &[],
+        output: b"trial number=0 symbols=0 batches=0 arrived=0 kept=0 inactive=0 answer=file\n",
+        notes: "",
+        reads: 0,
+        writes: 26,
+        reports: 1,
     },
 ];
 

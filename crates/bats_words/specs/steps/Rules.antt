@@ -45,7 +45,27 @@ sink_app =
     (option_rule (codes "--workers") (codes "workers") (codes "1" ∷ [])))
     (flag_rule (codes "--both") (codes "both"))
 
+abbrev pub replay_app : App
+replay_app =
+    with_rule (with_rule (with_rule (bare_app (codes "replay"))
+    (option_rule (codes "--workers") (codes "workers") (codes "1" ∷ [])))
+    (flag_rule (codes "--both") (codes "both")))
+    (flag_rule (codes "--pool") (codes "pool"))
+
 abbrev pub check_app : App
 check_app =
     with_rule (bare_app (codes "check"))
+    (option_rule (codes "--workers") (codes "workers") (codes "1" ∷ []))
+
+abbrev pub trial_app : App
+trial_app =
+    with_rule (with_rule (with_rule (with_rule (with_rule (with_rule (with_rule (with_rule (with_rule (bare_app (codes "trial"))
+    (option_rule (codes "--number") (codes "number") []))
+    (option_rule (codes "--m") (codes "m") []))
+    (option_rule (codes "--t") (codes "t") []))
+    (option_rule (codes "--length") (codes "length") []))
+    (option_rule (codes "--batches") (codes "batches") []))
+    (option_rule (codes "--relays") (codes "relays") []))
+    (option_rule (codes "--loss") (codes "loss") []))
+    (option_rule (codes "--table") (codes "table") (codes "0" ∷ [])))
     (option_rule (codes "--workers") (codes "workers") (codes "1" ∷ []))

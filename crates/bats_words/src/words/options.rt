@@ -1,5 +1,5 @@
 //! The values of options, among what `clap` found.
-ghost use Rattle.std.specs.Prelude.{◌≡◌, ◌≤◌, IfSome, option_and_then};
+ghost use Rattle.std.specs.Prelude.{◌≡◌, ◌≤◌, IfSome, option_and_then, codes};
 ghost use Rattle.bats_words.specs.WordValues.{number_in, rule_of, seed_of};
 ghost use Rattle.bats_words.specs.steps.Matched.{IsFlag, is_set, value_in};
 
@@ -34,4 +34,12 @@ pub(crate) fn flag(matches: &ArgMatches, name: &str) -> bool
     ensures { result ≡ is_set matches.now name.now }
 {
     matches.get_flag(name)
+}
+
+/// The number of workers.
+pub(crate) fn workers(matches: &ArgMatches) -> Option<u32>
+    ensures { result ≡ option_and_then (number_in 1 64) (value_in matches.now (codes "--workers")) }
+{
+    let workers = number(matches, "--workers", 1, 64)?;
+    Some(workers as u32)
 }

@@ -17,6 +17,11 @@ sink-requires-after_bounds g c _ _ =
     subst (λ (command : Command). InRanges command) c.in-Ok-Sink.field-0-is
     (subst (λ (x : Result Command WordsEnd). IfOk x InRanges) c.in-Ok-Sink.is c.parse.ensures.ranges)
 
+pub replay-requires-after_bounds : goal.replay-requires-after_bounds
+replay-requires-after_bounds g c _ _ =
+    subst (λ (command : Command). InRanges command) c.in-Ok-Replay.field-0-is
+    (subst (λ (x : Result Command WordsEnd). IfOk x InRanges) c.in-Ok-Replay.is c.parse.ensures.ranges)
+
 pub check-requires-after_bounds : goal.check-requires-after_bounds
 check-requires-after_bounds g c _ _ =
     subst (λ (command : Command). InRanges command) c.in-Ok-Check.field-0-is

@@ -2,6 +2,7 @@ use Rattle.std.proofs.Common.{sym, ◌∙◌}
 use Rattle.tool_laws.proofs.OneReading.{one_show}
 use Rattle.tool_laws.proofs.OneRelay.{one_relay}
 use Rattle.tool_laws.proofs.OneAnswer.{one_check, one_sink}
+use Rattle.tool_laws.proofs.OneNetwork.{one_pool, one_replay, one_trial}
 use Rattle.tool_laws.proofs.laws.one_ending.Goals as goal
 
 pub returns-clause-nothing : goal.returns-clause-nothing
@@ -21,3 +22,12 @@ returns-clause-show c = one_show
 
 pub returns-clause-relay : goal.returns-clause-relay
 returns-clause-relay c = one_relay
+
+pub returns-clause-replay : goal.returns-clause-replay
+returns-clause-replay c = one_replay
+
+pub returns-clause-pool : goal.returns-clause-pool
+returns-clause-pool c = one_pool
+
+pub returns-clause-trial : goal.returns-clause-trial
+returns-clause-trial c = λ options input. one_trial options
