@@ -2,6 +2,7 @@
 of a key, generators, kept packets. Slow and plain.
 """
 import struct
+from functools import lru_cache
 from typing import NamedTuple
 
 DEGREES = [
@@ -31,7 +32,7 @@ def scaled(factor, row):
 
 
 def plus(row, other):
-    return bytes(a ^ b for a, b in zip(row, other))
+    return (int.from_bytes(row, "big") ^ int.from_bytes(other, "big")).to_bytes(len(row), "big")
 
 
 def combined(width, factors, rows):
@@ -133,6 +134,7 @@ def degree_at(table, number):
         number -= weight
 
 
+@lru_cache(maxsize=None)
 def batch_of(session, number):
     """The contributors of a batch, and the rows of its generator, one a contributor."""
     first = number * session.m

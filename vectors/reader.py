@@ -101,6 +101,8 @@ def fixes(session, number, kept, known):
     """Whether the kept packets of a batch leave nothing open of its contributors that aren't known, of which there are some."""
     contributors, generator = batch_of(session, number)
     open_places = [k for k, s in enumerate(contributors) if s not in known]
+    if len(open_places) > len(kept):
+        return False
     rows = [bytes(dot(packet.coefs, generator[k]) for k in open_places) for packet in kept]
     return bool(open_places) and len(reduce(rows, len(open_places))[1]) == len(open_places)
 
