@@ -1,6 +1,7 @@
 //! Runs each row kernel once on fixed rows and prints a digest of what it leaves. With the word `time` it times each
-//! kernel beside a plain copy of as many bytes, with the word `offers` the offering of packets beside row operations, and
-//! with the word `solves` the solving of received packets beside as many row operations as it does.
+//! kernel beside a plain copy of as many bytes, with the word `row` one row operation, with the word `offers` the offering of
+//! packets beside row operations, and with the word `solves` the solving of received packets beside as many row operations as
+//! it does.
 #![tactic(auto)]
 
 use std::env::Env;
@@ -12,6 +13,7 @@ mod digests;
 mod draws;
 mod lines;
 mod offering;
+mod row_times;
 mod sending;
 mod solving;
 mod timing;
@@ -21,6 +23,7 @@ mod timing;
 enum Task {
     Digests,
     Times,
+    RowTime,
     OfferTimes,
     SolveTimes,
 }
@@ -32,6 +35,7 @@ fn asked<R: Env + AllocGlobal>(rt: &R) -> io::Result<Task> {
     };
     Ok(match word.as_str() {
         "time" => Task::Times,
+        "row" => Task::RowTime,
         "offers" => Task::OfferTimes,
         "solves" => Task::SolveTimes,
         _ => Task::Digests,
@@ -42,6 +46,7 @@ fn main(rt: HostRuntime) -> io::Result<()> {
     match asked(&rt)? {
         Task::Digests => digests::print_digests::<Brand, HostRuntime>(&rt, Blank::new(1)),
         Task::Times => timing::print_all_times(&rt),
+        Task::RowTime => row_times::print_row_time(&rt),
         Task::OfferTimes => offering::print_offer_times::<Brand, Brand, HostRuntime>(
             &rt,
             Blank::new(1),

@@ -83,8 +83,8 @@ fn add_between(front: &mut [u8], back: &mut [u8], size: usize, forth: bool, fact
     }
 }
 
-// Adds a multiple of row `src` to row `dst`, where both are in the buffer. Each has `size` bytes.
-fn add_row(rows: &mut [u8], size: u16, dst: u32, src: u32, factor: u8) {
+/// Adds a multiple of row `src` to row `dst`, where both are in the buffer. Each has `size` bytes.
+pub fn add_row(rows: &mut [u8], size: u16, dst: u32, src: u32, factor: u8) {
     let size = size as usize;
     let low = dst.min(src) as usize * size;
     let high = dst.max(src) as usize * size;
