@@ -79,12 +79,11 @@ impl Encoder {
 
 // The vector of m bytes that is 1 at place j and 0 elsewhere.
 fn vector_of(alloc: Global, m: u8, j: u32) -> Result<Vec<u8>, AllocError>
+    requires { j < m }
     ensures { IfOk result (λ vector. vector.items ≡ unit_vector m j) }
 {
-    let mut vector = Vec::with_capacity(alloc, m as usize)?;
-    for i in 0..u32::from(m) {
-        vector.push(u8::from(i == j))?;
-    }
+    let mut vector = vec![in alloc; 0; usize::from(m)]?;
+    vector[j as usize] = 1;
     Ok(vector)
 }
 

@@ -1,24 +1,25 @@
-use Rattle.std.proofs.Common.{◌≡◌, ◌==◌, ℕ, ◌∙◌, Bool, true, false, cond, refl, ap, sym, arith, ◌++◌, ◌∷◌, [], map}
-use mir.Val.{bool_byte}
-use Rattle.std.specs.List.{range_with_len}
-use Rattle.std.proofs.lemmas.List.FromFn.{map-range_with_len_more}
+use Rattle.std.proofs.Common.{◌≡◌, ◌<◌, ◌==◌, ◌∙◌, ℕ, List, length, get_or, cond, set, replicate, inl, inr, ap, sym, subst, arith}
+use Rattle.std.proofs.lemmas.Bool.{cases_order, cond-true, cond-false, eq-eqb, ne_eqb}
+use Rattle.std.proofs.lemmas.List.{get_or-set_same, get_or-set_other, get_or-replicate, length-set, length-replicate}
+use Rattle.std.proofs.lemmas.List.FromFn.{fill_by_all}
 use Rattle.bats_model.specs.Coded.{unit_vector}
 use Rattle.bats_encoder.proofs.encoder.vector_of.Goals as goal
 
-bool_byte-is : (b : Bool) → bool_byte b ≡ cond b 1 0
-bool_byte-is true = refl
-bool_byte-is false = refl
-
-pub loop-i-preserved : goal.loop-i-preserved
-loop-i-preserved c =
-    let entry : ℕ → ℕ = λ i. cond (i == c.args.j) 1 0 in
-    let here : c.from.result ≡ entry c.loop-i.i = c.from.ensures ∙ bool_byte-is _ in
-    c.in_ok-push.ensures.items ∙ ap (λ vector. vector ++ c.from.result ∷ []) c.loop-i.invariant
-    ∙ ap (λ x. map entry (range_with_len 0 c.loop-i.i) ++ x ∷ []) here
-    ∙ sym (map-range_with_len_more entry 0 c.loop-i.i c.loop-i.i (omega arith))
+-- zeros, but for a 1 at place j
+one_among_zeros : (m j : ℕ) → j < m → set (replicate m 0) j 1 ≡ unit_vector m j
+unfolding unit_vector
+one_among_zeros m j within =
+    let zeros : List ℕ = replicate m 0 in
+    let long : length zeros ≡ m = length-replicate m 0 in
+    let other : (i : ℕ) → i < m → (i ≡ j → ⊥) → get_or (set zeros j 1) i 0 ≡ cond (i == j) 1 0 = λ i h differ.
+    get_or-set_other zeros j i 1 0 differ ∙ get_or-replicate m i 0 0 h ∙ sym (cond-false (i == j) 1 0 (ne_eqb i j differ)) in
+    fill_by_all (λ i. cond (i == j) 1 0) (set zeros j 1) m 0 (length-set zeros j 1 ∙ long) (λ i h. elim (cases_order i j) [
+      | inl e ↦ ap (λ (n : ℕ). get_or (set zeros j 1) n 0) e ∙ get_or-set_same zeros j 1 0 (omega (arith, long)) ∙ sym (cond-true (i == j) 1 0 (eq-eqb i j e))
+      | inr (inl lower) ↦ other i h (λ e. omega arith)
+      | inr (inr higher) ↦ other i h (λ e. omega arith)
+    ])
 
 pub returns : goal.returns
-unfolding unit_vector
 returns c =
-    let all : c.loop-i.i ≡ c.args.m = omega arith in
-    c.loop-i.invariant ∙ ap (λ n. map (λ i. cond (i == c.args.j) 1 0) (range_with_len 0 n)) all
+    let zeros : c.in_ok-vector.vector.items ≡ replicate c.args.m 0 = c.in_ok-vector.ensures.items_if_clones_equal (λ y same. same) ∙ ap (λ n. replicate n 0) c.from.ensures in
+    subst (λ items. set items c.args.j 1 ≡ unit_vector c.args.m c.args.j) (sym zeros) (one_among_zeros c.args.m c.args.j c.requires)
