@@ -7,5 +7,6 @@ pub mod MatrixLemmas
 pub mod LinearLemmas
 pub mod SolutionLemmas
 pub mod KernelLemmas
+pub mod SpendsLemmas
 mod RoundLemmas
 mod Examples

@@ -5,3 +5,4 @@ pub mod Plan
 pub mod Matrix
 pub mod Performed
 pub mod Equations
+pub mod Spends
