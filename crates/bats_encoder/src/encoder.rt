@@ -1,4 +1,4 @@
-ghost use Rattle.std.specs.Prelude.{◌≡◌, ◌≢◌, ℕ, ◌+◌, ◌*◌, ◌/◌, ◌^◌, ◌<◌, ◌≤◌, ◌↔◌, length, slice_index, IfOk, IfErr, IsErr, IsOk};
+ghost use Rattle.std.specs.Prelude.{◌≡◌, ◌≢◌, IsTrue, ℕ, ◌+◌, ◌*◌, ◌/◌, ◌^◌, ◌<◌, ◌≤◌, ◌↔◌, length, slice_index, IfOk, IfErr, IsErr, IsOk};
 ghost use Rattle.bats_model.specs.Batch.{batch_of, contributor_of, degree_of, entry_of};
 ghost use Rattle.bats_encoder.specs.Terms.{HasTerms};
 ghost use Rattle.bats_model.specs.Symbol.{symbol_byte};
@@ -7,6 +7,7 @@ ghost use Rattle.bats_model.specs.Agreement.{Agrees};
 
 use crate::row::{add_four_symbols, add_symbol};
 use bats_model::{Batch, Bytes, Packet, Session};
+use gf_core::Gf;
 use gf_rows::Multiple;
 use std::alloc::{AllocError, Global};
 use std::marker::Model;
@@ -114,6 +115,22 @@ fn multiple_of<'a>(session: &Session, file: &'a [u8], batch: &Batch, j: u32, k: 
     }
 }
 
+// Whether the factors of four contributors, from this one on, are 0, as nearly all are in a packet that carries a symbol
+// as it is.
+fn add_nothing(batch: &Batch, j: u32, first: u32) -> bool
+    requires column { j < batch.now.columns }
+    requires within { first + 4 ≤ degree_of batch.now }
+    requires counted { degree_of batch.now < 2 ^ 32 }
+    ensures { IsTrue result → (k : ℕ) → first ≤ k → k < first + 4 → entry_of batch.now k j ≡ 0 }
+{
+    for k in first..first + 4 {
+        if batch.entry(k, j) != Gf::ZERO {
+            return false;
+        }
+    }
+    true
+}
+
 // Adds four contributors, from this one on, to a payload that has those before them.
 fn add_four_contributors(
     payload: &mut [u8],
@@ -130,6 +147,9 @@ fn add_four_contributors(
     requires before { HasTerms payload.old session.now file.now batch.now j first }
     ensures { HasTerms payload.new session.now file.now batch.now j (first + 4) }
 {
+    if add_nothing(batch, j, first) {
+        return;
+    }
     let a = multiple_of(session, file, batch, j, first);
     let b = multiple_of(session, file, batch, j, first + 1);
     let c = multiple_of(session, file, batch, j, first + 2);

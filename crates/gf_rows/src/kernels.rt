@@ -9,7 +9,8 @@ use crate::{lanes, plain, rounds};
 use gf_core::Gf;
 use std::sync::ledger::Ledger;
 
-/// Adds `c` times each byte of `src` to the byte of `dst` at the same place. The two have one length.
+/// Adds `c` times each byte of `src` to the byte of `dst` at the same place. The two have one length. A factor of 0 reads
+/// no row.
 pub fn add_scaled(dst: &mut [u8], c: Gf, src: &[u8])
     requires { length dst.old ≡ length src.now }
     ensures { dst.new ≡ add_scaled_row dst.old c src.now }
@@ -23,6 +24,18 @@ pub fn add_scaled(dst: &mut [u8], c: Gf, src: &[u8])
 
 // Adds each byte of `src` to the byte of `dst` at the same place.
 fn add_row(dst: &mut [u8], src: &[u8])
+    requires { length dst.old ≡ length src.now }
+    ensures { dst.new ≡ row_sum dst.old src.now }
+{
+    if dst.len() < 32 {
+        plain::add_row(dst, src)
+    } else {
+        add_row_by_vectors(dst, src)
+    }
+}
+
+// Does what `add_row` does, with the bytes that fill vectors first and then the others.
+fn add_row_by_vectors(dst: &mut [u8], src: &[u8])
     requires { length dst.old ≡ length src.now }
     ensures { dst.new ≡ row_sum dst.old src.now }
 {
@@ -43,8 +56,20 @@ fn add_multiple(dst: &mut [u8], c: Gf, src: &[u8])
     }
 }
 
-// Does what `add_scaled` does without tables: 16 bytes at a time by rounds, and then the others.
+// Does what `add_scaled` does without tables of the factor. Rows of fewer than 16 bytes go byte by byte.
 fn add_short(dst: &mut [u8], c: Gf, src: &[u8])
+    requires { length dst.old ≡ length src.now }
+    ensures { dst.new ≡ add_scaled_row dst.old c src.now }
+{
+    if dst.len() < 16 {
+        plain::add_scaled(dst, c, src)
+    } else {
+        add_by_rounds(dst, c, src)
+    }
+}
+
+// Does what `add_short` does: 16 bytes at a time by rounds, and then the others.
+fn add_by_rounds(dst: &mut [u8], c: Gf, src: &[u8])
     requires { length dst.old ≡ length src.now }
     ensures { dst.new ≡ add_scaled_row dst.old c src.now }
 {
@@ -63,7 +88,8 @@ fn add_by_vectors(dst: &mut [u8], c: Gf, src: &[u8])
     add_short(&mut dst[whole..], c, &src[whole..]);
 }
 
-/// Adds four multiples to `dst`, one after another, in a single pass over it. All rows have its length.
+/// Adds four multiples to `dst`, one after another, in a single pass over it where no factor is 0. All rows have its
+/// length. A row whose factor is 0 isn't read.
 pub fn add_four(dst: &mut [u8], a: &Multiple, b: &Multiple, c: &Multiple, d: &Multiple)
     requires length_a { length dst.old ≡ length a.now.row.now }
     requires length_b { length dst.old ≡ length b.now.row.now }
@@ -73,14 +99,23 @@ pub fn add_four(dst: &mut [u8], a: &Multiple, b: &Multiple, c: &Multiple, d: &Mu
         a.now.factor a.now.row.now) b.now.factor b.now.row.now) c.now.factor c.now.row.now)
         d.now.factor d.now.row.now }
 {
-    if dst.len() < 32 {
+    if are_few(dst, a, b, c, d) {
         add_each(dst, a, b, c, d);
     } else {
         add_four_by_vectors(dst, a, b, c, d);
     }
 }
 
-// Does what `add_four` does, a row at a time, without tables.
+// Whether the multiples are better added one by one: the rows fill no vector, or a factor is 0.
+fn are_few(dst: &[u8], a: &Multiple, b: &Multiple, c: &Multiple, d: &Multiple) -> bool {
+    dst.len() < 32
+        || a.factor == Gf::ZERO
+        || b.factor == Gf::ZERO
+        || c.factor == Gf::ZERO
+        || d.factor == Gf::ZERO
+}
+
+// Does what `add_four` does, a row at a time.
 fn add_each(dst: &mut [u8], a: &Multiple, b: &Multiple, c: &Multiple, d: &Multiple)
     requires length_a { length dst.old ≡ length a.now.row.now }
     requires length_b { length dst.old ≡ length b.now.row.now }
@@ -90,10 +125,10 @@ fn add_each(dst: &mut [u8], a: &Multiple, b: &Multiple, c: &Multiple, d: &Multip
         a.now.factor a.now.row.now) b.now.factor b.now.row.now) c.now.factor c.now.row.now)
         d.now.factor d.now.row.now }
 {
-    add_short(dst, a.factor, a.row);
-    add_short(dst, b.factor, b.row);
-    add_short(dst, c.factor, c.row);
-    add_short(dst, d.factor, d.row);
+    add_scaled(dst, a.factor, a.row);
+    add_scaled(dst, b.factor, b.row);
+    add_scaled(dst, c.factor, c.row);
+    add_scaled(dst, d.factor, d.row);
 }
 
 // Does what `add_four` does, with the bytes that fill vectors first and then the others.
@@ -137,8 +172,19 @@ pub fn scale_row(row: &mut [u8], c: Gf)
     }
 }
 
-// Does what `scale_row` does without tables: 16 bytes at a time by rounds, and then the others.
+// Does what `scale_row` does without tables of the factor. Rows of fewer than 16 bytes go byte by byte.
 fn scale_short(row: &mut [u8], c: Gf)
+    ensures { row.new ≡ scaled_row c row.old }
+{
+    if row.len() < 16 {
+        plain::scale_row(row, c)
+    } else {
+        scale_by_rounds(row, c)
+    }
+}
+
+// Does what `scale_short` does: 16 bytes at a time by rounds, and then the others.
+fn scale_by_rounds(row: &mut [u8], c: Gf)
     ensures { row.new ≡ scaled_row c row.old }
 {
     let whole = row.len() / 16 * 16;

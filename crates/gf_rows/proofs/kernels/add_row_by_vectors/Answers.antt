@@ -1,6 +1,6 @@
 use Rattle.std.proofs.Common.{◌*◌, ◌/◌, length, arith}
 use Rattle.gf_rows.proofs.LaneLemmas.{sum_in_parts}
-use Rattle.gf_rows.proofs.kernels.add_row.Goals as goal
+use Rattle.gf_rows.proofs.kernels.add_row_by_vectors.Goals as goal
 
 pub returns : goal.returns
 returns c =

@@ -1,6 +1,6 @@
 use Rattle.std.proofs.Common.{◌*◌, ◌/◌, length, arith}
 use Rattle.gf_rows.proofs.LaneLemmas.{add_in_parts}
-use Rattle.gf_rows.proofs.kernels.add_short.Goals as goal
+use Rattle.gf_rows.proofs.kernels.add_by_rounds.Goals as goal
 
 pub returns : goal.returns
 returns c =
