@@ -1,4 +1,3 @@
-pub mod KeptPackets
 pub mod AgreeingColumns
 pub mod AnswersRight
 pub mod RaisedFiles

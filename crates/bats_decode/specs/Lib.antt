@@ -1,4 +1,3 @@
-pub mod Repeats
 pub mod Decoder
 pub mod SolvingPlan
 pub mod steps

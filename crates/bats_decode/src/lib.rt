@@ -7,11 +7,9 @@
 mod answering;
 mod decoder;
 mod elimination;
-mod laws;
 mod payload_rows;
 
 pub use decoder::{Decoder, Solved};
-pub use laws::repeats_are_combinations;
 
 #[cfg(test)]
 mod tests;

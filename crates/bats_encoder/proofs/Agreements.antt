@@ -5,10 +5,9 @@ use Rattle.bats_model.specs.Session.{SessionData}
 use Rattle.bats_model.specs.Batch.{BatchData, batch_of}
 use Rattle.bats_model.specs.Coded.{coded_byte, coded_payload, unit_vector}
 use Rattle.bats_model.specs.Agreement.{IsFile, Agrees}
-use Rattle.bats_model.specs.Plain.{IsUnitAt}
 use Rattle.bats_model.specs.declared.packet.Packet.{Packet}
 use Rattle.bats_model.proofs.PlainAgreement.{combined_byte-unit}
-use Rattle.bats_model.proofs.UnitVectors.{length-unit_vector}
+use Rattle.bats_model.proofs.UnitVectors.{IsUnitAt, length-unit_vector}
 
 pub length-coded_payload : (session : SessionData) (file : List ℕ) (batch : BatchData) (j : ℕ) → length (coded_payload session file batch j) ≡ session.t
 unfolding coded_payload

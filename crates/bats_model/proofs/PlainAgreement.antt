@@ -1,5 +1,5 @@
 -- A file agrees with a plain packet exactly where the packet's payload is the symbol that it names.
-use Rattle.std.proofs.Common.{ℕ, ◌≡◌, ◌≢◌, ◌<◌, ◌≤◌, ◌==◌, ◌+◌, ◌-◌, ◌*◌, ◌/◌, ◌%◌, ◌∙◌, ◌↔◌, sym, ap, refl, min, mul_comm, true, List, length, inl, inr, arith}
+use Rattle.std.proofs.Common.{ℕ, ◌≡◌, ◌≢◌, ◌<◌, ◌≤◌, ◌==◌, ◌+◌, ◌-◌, ◌*◌, ◌/◌, ◌%◌, ◌∙◌, ◌↔◌, sym, ap, refl, min, mul_comm, true, List, length, slice_index, inl, inr, arith}
 use Rattle.std.proofs.lemmas.Bool.{cases_lt, cond-true, cond-false, eq-eqb, ne_eqb}
 use Rattle.std.proofs.lemmas.List.{get_or_past}
 use Rattle.std.proofs.lemmas.Grind.{div_ceil_times}
@@ -15,10 +15,9 @@ use Rattle.bats_model.specs.Values.{coded_value, combined_value}
 use Rattle.bats_model.specs.Values.{coded_term, combined_term}
 use Rattle.bats_model.specs.Coded.{coded_byte}
 use Rattle.bats_model.specs.Agreement.{IsFile, Agrees, combined_byte}
-use Rattle.bats_model.specs.Plain.{IsUnitAt, IsSymbol}
 use Rattle.bats_model.specs.declared.packet.Packet.{Packet}
 use Rattle.bats_model.proofs.SystematicBatches.{batch_of-systematic}
-use Rattle.bats_model.proofs.UnitVectors.{one-at, zero-elsewhere}
+use Rattle.bats_model.proofs.UnitVectors.{IsUnitAt, one-at, zero-elsewhere}
 
 -- a unit vector takes one coded packet
 pub combined_byte-unit : (session : SessionData) (file : List ℕ) (number : ℕ) (coefs : List ℕ) (j c : ℕ)
@@ -108,7 +107,8 @@ combined_byte-plain session file number coefs j c f h unit l some =
 pub Agrees-plain : (session : SessionData) (file : List ℕ) (packet : Packet) (j : ℕ) → IsFile session file
     → is_systematic_batch session packet.batch ≡ true → IsUnitAt packet.coefs j → length packet.coefs ≡ session.m
     → 0 < session.t
-    → Agrees session file packet ↔ IsSymbol session file (packet.batch * session.m + j) packet.payload
+    → Agrees session file packet ↔ ((c : ℕ) → c < session.t
+    → slice_index packet.payload c ≡ symbol_byte session file (packet.batch * session.m + j) c)
 Agrees-plain session file packet j f h unit l some =
     let byte : (c : ℕ) → combined_byte session file packet.batch packet.coefs c ≡ symbol_byte session file (packet.batch * session.m + j) c =
     λ c. combined_byte-plain session file packet.batch packet.coefs j c f h unit l some in

@@ -8,7 +8,6 @@ pub mod Values
 pub mod Coded
 pub mod Agreement
 pub mod RightAnswer
-pub mod Plain
 pub mod Records
 pub mod PacketFile
 pub mod Refusal

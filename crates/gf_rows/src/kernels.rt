@@ -211,31 +211,6 @@ pub fn axpy<L: Ledger>(dst: &mut [u8], c: Gf, src: &[u8], steps: &mut Steps<L>)
     steps.tick();
 }
 
-/// Does what `add_four` does, and counts four steps.
-pub fn axpy_four<L: Ledger>(
-    dst: &mut [u8],
-    a: &Multiple,
-    b: &Multiple,
-    c: &Multiple,
-    d: &Multiple,
-    steps: &mut Steps<L>,
-)
-    requires length_a { length dst.old ≡ length a.now.row.now }
-    requires length_b { length dst.old ≡ length b.now.row.now }
-    requires length_c { length dst.old ≡ length c.now.row.now }
-    requires length_d { length dst.old ≡ length d.now.row.now }
-    ensures row { dst.new ≡ add_scaled_row (add_scaled_row (add_scaled_row (add_scaled_row dst.old
-        a.now.factor a.now.row.now) b.now.factor b.now.row.now) c.now.factor c.now.row.now)
-        d.now.factor d.now.row.now }
-    ensures counted { steps.new ≡ steps.old + 4 }
-{
-    add_four(dst, a, b, c, d);
-    steps.tick();
-    steps.tick();
-    steps.tick();
-    steps.tick();
-}
-
 /// Does what `scale_row` does, and counts one step.
 pub fn scale<L: Ledger>(row: &mut [u8], c: Gf, steps: &mut Steps<L>)
     requires { c ≢ 0 }

@@ -15,7 +15,7 @@ mod plan;
 mod rounds;
 mod steps;
 
-pub use kernels::{add_four, add_scaled, axpy, axpy_four, dot, scale, scale_row};
+pub use kernels::{add_four, add_scaled, axpy, dot, scale, scale_row};
 pub use matrix::Matrix;
 pub use multiple::Multiple;
 pub use operation::Op;

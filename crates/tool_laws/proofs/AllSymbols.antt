@@ -11,7 +11,7 @@ use Rattle.std.proofs.Math.Nat.{mod-lt}
 use Rattle.bats_model.specs.Bytes.{AreBytes}
 use Rattle.bats_model.specs.Session.{SessionData, IsSession, symbols_of, max_symbols}
 use Rattle.bats_model.specs.Symbol.{symbol_byte}
-use Rattle.bats_model.specs.Plain.{IsPlain, IsUnitAt}
+use Rattle.bats_model.specs.Batch.{is_systematic_batch}
 use Rattle.bats_model.specs.Coded.{unit_vector}
 use Rattle.bats_model.specs.Kept.{kept_count}
 use Rattle.bats_model.specs.PacketFile.{HasShape, IsPacketFile, packets_of}
@@ -22,7 +22,7 @@ use Rattle.bats_model.specs.declared.item.Item.{Item}
 use Rattle.bats_model.proofs.KeptSpans.{HasVector}
 use Rattle.bats_model.proofs.PlainAgreement.{Agrees-plain}
 use Rattle.bats_model.proofs.SystematicBatches.{is_systematic_batch-within}
-use Rattle.bats_model.proofs.UnitVectors.{length-unit_vector}
+use Rattle.bats_model.proofs.UnitVectors.{IsUnitAt, length-unit_vector}
 use Rattle.bats_words.specs.declared.source_options.SourceOptions.{SourceOptions}
 use Rattle.tool_run.specs.declared.status.Status.TheVariants as statuses
 use Rattle.bats_words.specs.Options.{HasRanges}
@@ -73,13 +73,6 @@ IsUnitAt-sent session file number j column =
     let size = length-unit_vector session.m j in
     record { within = omega (arith, size); entries = ap (λ (n : ℕ). unit_vector n j) (sym size) }
 
-IsPlain-sent : (session : SessionData) (file : List ℕ) (number j : ℕ) → session.systematic ≡ true
-    → number * session.m < symbols_of session → j < session.m → IsPlain session (sent_packet session file number j)
-IsPlain-sent session file number j systematic within column = record {
-  systematic = is_systematic_batch-within session number systematic within;
-  unit = (j, IsUnitAt-sent session file number j column);
-}
-
 factor-lt : (a b t : ℕ) → a * t < b * t → a < b
 factor-lt a b t h = elim (cases_lt a b) [
   | inl less ↦ less
@@ -87,13 +80,13 @@ factor-lt a b t h = elim (cases_lt a b) [
 ]
 
 -- two files that agree with the packet of a symbol have its bytes in common
-same_symbol : (session : SessionData) (file other : List ℕ) (packet : Packet) (j c : ℕ) → IsPlain session packet
-    → IsUnitAt packet.coefs j → length packet.coefs ≡ session.m → 0 < session.t → c < session.t
+same_symbol : (session : SessionData) (file other : List ℕ) (packet : Packet) (j c : ℕ)
+    → is_systematic_batch session packet.batch ≡ true → IsUnitAt packet.coefs j → length packet.coefs ≡ session.m → 0 < session.t → c < session.t
     → Agrees session file packet → Agrees session other packet
     → symbol_byte session other (packet.batch * session.m + j) c ≡ symbol_byte session file (packet.batch * session.m + j) c
-same_symbol session file other packet j c plain unit size some h a b =
-    sym ((Agrees-plain session other packet j b.is_file plain.systematic unit size some).0 b c h)
-    ∙ (Agrees-plain session file packet j a.is_file plain.systematic unit size some).0 a c h
+same_symbol session file other packet j c systematic unit size some h a b =
+    sym ((Agrees-plain session other packet j b.is_file systematic unit size some).0 b c h)
+    ∙ (Agrees-plain session file packet j a.is_file systematic unit size some).0 a c h
 
 -- the packets have each coded packet of the batches that the symbols fill
 record Covers (session : SessionData) (file : List ℕ) (packets : List Packet) : Type 0 where
@@ -125,7 +118,7 @@ same_byte session file other packets h a b i within =
     let there : Contains packets packet = h.there number j batch column in
     let place : (number * m + j) * t + c ≡ i = ap (λ (x : ℕ). x * t + c) of_batch ∙ of_symbol in
     let same : symbol_byte session other (number * m + j) c ≡ symbol_byte session file (number * m + j) c =
-    same_symbol session file other packet j c (IsPlain-sent session file number j h.systematic batch column)
+    same_symbol session file other packet j c (is_systematic_batch-within session number h.systematic batch)
     (IsUnitAt-sent session file number j column) (length-unit_vector m j) t_some byte
     (All-contains (Agrees session file) packets packet a.each there) (All-contains (Agrees session other) packets packet b.each there) in
     subst (λ (x : ℕ). get_or other x 0 ≡ get_or file x 0) place same
