@@ -8,7 +8,7 @@ ghost use Rattle.bats_batch.specs.steps.Entries.{offered_packets};
 
 use crate::entry::Entry;
 use gf_core::Gf;
-use gf_rows::{Steps, add_scaled};
+use gf_rows::{Steps, axpy};
 use std::alloc::AllocError;
 use std::sync::ledger::Ledger;
 
@@ -22,8 +22,7 @@ fn add_payload<L: Ledger>(sum: &mut [u8], factor: u8, payload: &[u8], steps: &mu
     if factor == 0 {
         return;
     }
-    add_scaled(sum, Gf::new(factor), payload);
-    steps.tick();
+    axpy(sum, Gf::new(factor), payload, steps);
 }
 
 // Adds the kept payloads, each times its factor, to a row of zeros. It is at most one step a kept packet.

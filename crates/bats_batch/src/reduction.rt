@@ -8,7 +8,7 @@ ghost use Rattle.bats_batch.specs.steps.Entries.{pivots_of, rows_of};
 
 use crate::entry::Entry;
 use gf_core::Gf;
-use gf_rows::{Steps, add_scaled, scale_row};
+use gf_rows::{Steps, axpy, scale};
 use std::sync::ledger::Ledger;
 
 // The place of the first byte that isn't 0.
@@ -36,8 +36,7 @@ fn clear_pivot<C: Ledger>(row: &mut [u8], pivot: usize, reduced: &[u8], coef_ste
     if factor == 0 {
         return;
     }
-    add_scaled(row, Gf::new(factor), reduced);
-    coef_steps.tick();
+    axpy(row, Gf::new(factor), reduced, coef_steps);
 }
 
 // Makes the row 0 at the pivots of the reduced rows, one after another. It is at most one step a reduced row.
@@ -67,7 +66,5 @@ pub(crate) fn make_one<C: Ledger>(row: &mut [u8], pivot: usize, coef_steps: &mut
         return;
     }
     let factor = entry.inv();
-    let _byte = factor.byte();
-    scale_row(row, factor);
-    coef_steps.tick();
+    scale(row, factor, coef_steps);
 }

@@ -1,4 +1,4 @@
-ghost use Rattle.std.specs.Prelude.{◌≡◌, ◌≢◌, ◌+◌, length, slice_index};
+ghost use Rattle.std.specs.Prelude.{◌≡◌, ◌≢◌, ◌+◌, ◌<◌, length, slice_index};
 ghost use Rattle.gf_core.specs.Field.{gf_mul, gf_sum};
 ghost use Rattle.gf_core.specs.Rows.{add_scaled_row, row_sum, scaled_row};
 ghost use Rattle.gf_rows.specs.Multiples.{sum_of_four};
@@ -99,20 +99,51 @@ pub fn add_four(dst: &mut [u8], a: &Multiple, b: &Multiple, c: &Multiple, d: &Mu
         a.now.factor a.now.row.now) b.now.factor b.now.row.now) c.now.factor c.now.row.now)
         d.now.factor d.now.row.now }
 {
-    if are_few(dst, a, b, c, d) {
+    if dst.len() < 32 {
+        add_four_short(dst, a, b, c, d);
+    } else if any_is_zero(a, b, c, d) {
         add_each(dst, a, b, c, d);
     } else {
         add_four_by_vectors(dst, a, b, c, d);
     }
 }
 
-// Whether the multiples are better added one by one: the rows fill no vector, or a factor is 0.
-fn are_few(dst: &[u8], a: &Multiple, b: &Multiple, c: &Multiple, d: &Multiple) -> bool {
-    dst.len() < 32
-        || a.factor == Gf::ZERO
-        || b.factor == Gf::ZERO
-        || c.factor == Gf::ZERO
-        || d.factor == Gf::ZERO
+// Whether a factor is 0.
+fn any_is_zero(a: &Multiple, b: &Multiple, c: &Multiple, d: &Multiple) -> bool {
+    a.factor == Gf::ZERO || b.factor == Gf::ZERO || c.factor == Gf::ZERO || d.factor == Gf::ZERO
+}
+
+// Does what `add_four` does without tables of the factors. Rows of fewer than 16 bytes go byte by byte.
+fn add_four_short(dst: &mut [u8], a: &Multiple, b: &Multiple, c: &Multiple, d: &Multiple)
+    requires length_a { length dst.old ≡ length a.now.row.now }
+    requires length_b { length dst.old ≡ length b.now.row.now }
+    requires length_c { length dst.old ≡ length c.now.row.now }
+    requires length_d { length dst.old ≡ length d.now.row.now }
+    ensures { dst.new ≡ add_scaled_row (add_scaled_row (add_scaled_row (add_scaled_row dst.old
+        a.now.factor a.now.row.now) b.now.factor b.now.row.now) c.now.factor c.now.row.now)
+        d.now.factor d.now.row.now }
+{
+    if dst.len() < 16 {
+        add_each_by_bytes(dst, a, b, c, d);
+    } else {
+        add_each(dst, a, b, c, d);
+    }
+}
+
+// Does what `add_four` does, a row at a time, byte by byte.
+fn add_each_by_bytes(dst: &mut [u8], a: &Multiple, b: &Multiple, c: &Multiple, d: &Multiple)
+    requires length_a { length dst.old ≡ length a.now.row.now }
+    requires length_b { length dst.old ≡ length b.now.row.now }
+    requires length_c { length dst.old ≡ length c.now.row.now }
+    requires length_d { length dst.old ≡ length d.now.row.now }
+    ensures { dst.new ≡ add_scaled_row (add_scaled_row (add_scaled_row (add_scaled_row dst.old
+        a.now.factor a.now.row.now) b.now.factor b.now.row.now) c.now.factor c.now.row.now)
+        d.now.factor d.now.row.now }
+{
+    plain::add_scaled(dst, a.factor, a.row);
+    plain::add_scaled(dst, b.factor, b.row);
+    plain::add_scaled(dst, c.factor, c.row);
+    plain::add_scaled(dst, d.factor, d.row);
 }
 
 // Does what `add_four` does, a row at a time.
@@ -148,7 +179,7 @@ fn add_four_by_vectors(dst: &mut [u8], a: &Multiple, b: &Multiple, c: &Multiple,
         &c.front(whole),
         &d.front(whole),
     );
-    add_each(
+    add_four_short(
         &mut dst[whole..],
         &a.back(whole),
         &b.back(whole),
@@ -160,7 +191,8 @@ fn add_four_by_vectors(dst: &mut [u8], a: &Multiple, b: &Multiple, c: &Multiple,
 /// Makes each byte `c` times itself. The factor isn't 0.
 pub fn scale_row(row: &mut [u8], c: Gf)
     requires { c ≢ 0 }
-    ensures { row.new ≡ scaled_row c row.old }
+    ensures row { row.new ≡ scaled_row c row.old }
+    ensures byte { c < 256 }
 {
     if c.byte() == 1 {
         return;
@@ -216,6 +248,7 @@ pub fn scale<L: Ledger>(row: &mut [u8], c: Gf, steps: &mut Steps<L>)
     requires { c ≢ 0 }
     ensures row { row.new ≡ scaled_row c row.old }
     ensures counted { steps.new ≡ steps.old + 1 }
+    ensures byte { c < 256 }
 {
     scale_row(row, c);
     steps.tick();

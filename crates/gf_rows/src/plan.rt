@@ -1,5 +1,5 @@
 ghost use Rattle.std.specs.Prelude.{◌≡◌, ◌<◌, ◌++◌, ◌∷◌, [], ◌↔◌, All, IsTrue, OnOk, OnErr, length, slice_get};
-ghost use Rattle.gf_rows.specs.Operation.{IsRowOperation, FitsRows};
+ghost use Rattle.gf_rows.specs.Operation.{IsRowOperation, HasByteFactor, FitsRows};
 ghost use Rattle.gf_rows.specs.Plan.{IsPlan};
 
 use crate::operation::Op;
@@ -63,6 +63,7 @@ impl Plan {
         requires { IsRowOperation op }
         ensures ok { OnOk result (self.new ≡ self.old ++ op ∷ []) }
         ensures err { OnErr result (self.new ≡ self.old) }
+        ensures byte { HasByteFactor op }
     {
         self.operations.push(op)?;
         Ok(())

@@ -3,7 +3,7 @@ ghost use Rattle.std.specs.Prelude.{◌≡◌, ◌+◌, ◌<◌};
 use std::marker::Model;
 use std::sync::ledger::{Blank, Book, Ledger, Share};
 
-/// How many steps were taken. It takes no bytes, and only `tick` and `rise` change it.
+/// How many steps were taken. It takes no bytes, and only `tick` changes it.
 #[derive(Drop)]
 pub struct Steps<L: Ledger> {
     book: Book<L>,
@@ -37,12 +37,5 @@ impl<L: Ledger> Steps<L> {
         ensures { self.new ≡ self.old + 1 }
     {
         self.book.add(&mut self.share, 1);
-    }
-
-    /// Counts this many steps.
-    pub fn rise(&mut self, by: u64)
-        ensures { self.new ≡ self.old + by }
-    {
-        self.book.add(&mut self.share, by);
     }
 }

@@ -1,4 +1,4 @@
-use Rattle.std.proofs.Common.{◌≡◌, ◌<◌, ◌∙◌, sym, ap, subst, arith}
+use Rattle.std.proofs.Common.{◌≡◌, ◌∙◌, sym, ap, subst, arith}
 use Rattle.std.proofs.lemmas.Bool.{eqb-true}
 use Rattle.gf_core.specs.Field.{gf_mul}
 use Rattle.gf_core.proofs.ProductLemmas.{gf_mul-zero}
@@ -10,14 +10,13 @@ pub returns-then-eq-clause-row : goal.returns-then-eq-clause-row
 returns-then-eq-clause-row g c =
     IsNormalized-same c.args.pivot c.args.row.now (sym c.new-entry.ensures ∙ eqb-true c.new-entry.result 1 (sym c.eq.ensures ∙ c.if-eq.true))
 
-pub scale_row-requires : goal.scale_row-requires
-scale_row-requires g c is_zero =
+pub scale-requires : goal.scale-requires
+scale-requires g c is_zero =
     let one : 0 ≡ 1 = sym (gf_mul-zero c.new-entry.result) ∙ ap (gf_mul c.new-entry.result) (sym is_zero) ∙ c.inv-factor.ensures in
     omega (arith, one)
 
 pub returns-clause-row : goal.returns-clause-row
 returns-clause-row g c =
-    let below : c.inv-factor.result < 256 = subst (λ n. n < 256) c.byte-byte.ensures (omega (arith, c.byte-byte.type_inv)) in
-    subst (IsNormalized c.args.pivot c.args.row.now) (sym c.scale_row.ensures)
-    (IsNormalized-scaled c.args.pivot c.args.row.now c.inv-factor.result c.requires.bytes below
+    subst (IsNormalized c.args.pivot c.args.row.now) (sym c.scale.ensures.row)
+    (IsNormalized-scaled c.args.pivot c.args.row.now c.inv-factor.result c.requires.bytes c.scale.ensures.byte
     (ap (λ e. gf_mul e c.inv-factor.result) (sym c.new-entry.ensures) ∙ c.inv-factor.ensures))

@@ -2,8 +2,8 @@ use Rattle.std.proofs.Common.{◌∙◌, sym}
 use Rattle.gf_rows.proofs.MultipleLemmas.{row_sum-sum_of_four}
 use Rattle.gf_rows.proofs.kernels.add_four.Goals as goal
 
-pub returns-else-are_few : goal.returns-else-are_few
-returns-else-are_few c =
+pub returns-else-any_is_zero : goal.returns-else-any_is_zero
+returns-else-any_is_zero c =
     let a = c.args.a.now in
     let b = c.args.b.now in
     let third = c.args.c.now in

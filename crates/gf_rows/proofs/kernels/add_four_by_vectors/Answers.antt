@@ -30,9 +30,9 @@ returns c =
     let lb : length (drop w b) ≡ length b - w = length-drop w b in
     let lc : length (drop w third) ≡ length third - w = length-drop w third in
     let ld : length (drop w d) ≡ length d - w = length-drop w d in
-    let second : c.add_each.new.dst ≡ row_sum found (take (length all - w) (drop w all)) =
-    c.add_each.ensures ∙
+    let second : c.add_four_short.new.dst ≡ row_sum found (take (length all - w) (drop w all)) =
+    c.add_four_short.ensures ∙
     (λ i. add_scaled_row (add_scaled_row (add_scaled_row (add_scaled_row found (c.back.ensures.factor i) (c.back.ensures.row i)) (c.back-2.ensures.factor i) (c.back-2.ensures.row i)) (c.back-3.ensures.factor i) (c.back-3.ensures.row i)) (c.back-4.ensures.factor i) (c.back-4.ensures.row i)) ∙
     sym (row_sum-sum_of_four found fa (drop w a) fb (drop w b) fc (drop w third) fd (drop w d) (omega arith) (omega arith) (omega arith)) ∙
     ap (row_sum found) (drop-sum_of_four w fa a fb b fc third fd d ∙ rest) in
-    sum_in_parts w dst all c.add_four.new.dst c.add_each.new.dst (omega arith) (c.requires.length_a ∙ sym size) first second
+    sum_in_parts w dst all c.add_four.new.dst c.add_four_short.new.dst (omega arith) (c.requires.length_a ∙ sym size) first second
