@@ -1,7 +1,6 @@
 //! Runs each row kernel once on fixed rows and prints a digest of what it leaves. With the word `time` it times each
-//! kernel beside a plain copy of as many bytes, with the word `row` one row operation, with the word `offers` the offering of
-//! packets beside row operations, and with the word `solves` the solving of received packets beside as many row operations as
-//! it does.
+//! kernel beside a plain copy of as many bytes, and with the word `solves` the receiving and solving of packets beside as many
+//! row operations as solving does.
 #![tactic(auto)]
 
 use std::env::Env;
@@ -11,9 +10,6 @@ use std::{env, io};
 
 mod digests;
 mod draws;
-mod lines;
-mod offering;
-mod row_times;
 mod sending;
 mod solving;
 mod timing;
@@ -23,8 +19,6 @@ mod timing;
 enum Task {
     Digests,
     Times,
-    RowTime,
-    OfferTimes,
     SolveTimes,
 }
 
@@ -35,8 +29,6 @@ fn asked<R: Env + AllocGlobal>(rt: &R) -> io::Result<Task> {
     };
     Ok(match word.as_str() {
         "time" => Task::Times,
-        "row" => Task::RowTime,
-        "offers" => Task::OfferTimes,
         "solves" => Task::SolveTimes,
         _ => Task::Digests,
     })
@@ -46,12 +38,6 @@ fn main(rt: HostRuntime) -> io::Result<()> {
     match asked(&rt)? {
         Task::Digests => digests::print_digests::<Brand, HostRuntime>(&rt, Blank::new(1)),
         Task::Times => timing::print_all_times(&rt),
-        Task::RowTime => row_times::print_row_time(&rt),
-        Task::OfferTimes => offering::print_offer_times::<Brand, Brand, HostRuntime>(
-            &rt,
-            Blank::new(1),
-            Blank::new(1),
-        ),
         Task::SolveTimes => solving::print_solve_times::<Brand, Brand, HostRuntime>(
             &rt,
             Blank::new(1),

@@ -1,8 +1,6 @@
-//! Times the solving of received packets beside as many row operations as its plan has, and what else a sink does with
-//! them: to receive them, and to read them, which is what `show` does but for its lines.
+//! Times the receiving and solving of packets beside as many row operations as the plan has.
 ghost use Rattle.std.specs.Prelude.{◌≡◌, ◌<◌};
 
-use crate::lines::lines_time;
 use crate::sending::{Case, packets_of};
 use crate::timing::{buffer, nanos_since};
 use bats_decode::Decoder;
@@ -31,8 +29,6 @@ struct Round {
     solve: u64,
     // nanoseconds of as many row operations as the plan has
     rows: u64,
-    // nanoseconds of making the lines of all packets
-    lines: u64,
 }
 
 impl Round {
@@ -44,7 +40,6 @@ impl Round {
             offers: self.offers.min(other.offers),
             solve: self.solve.min(other.solve),
             rows: self.rows.min(other.rows),
-            lines: self.lines.min(other.lines),
         }
     }
 }
@@ -83,8 +78,8 @@ fn add_between(front: &mut [u8], back: &mut [u8], size: usize, forth: bool, fact
     }
 }
 
-/// Adds a multiple of row `src` to row `dst`, where both are in the buffer. Each has `size` bytes.
-pub fn add_row(rows: &mut [u8], size: u16, dst: u32, src: u32, factor: u8) {
+// Adds a multiple of row `src` to row `dst`, where both are in the buffer. Each has `size` bytes.
+fn add_row(rows: &mut [u8], size: u16, dst: u32, src: u32, factor: u8) {
     let size = size as usize;
     let low = dst.min(src) as usize * size;
     let high = dst.max(src) as usize * size;
@@ -141,7 +136,6 @@ fn solve_once<C: Ledger, L: Ledger>(
         offers,
         solve,
         rows: rows_time(rt, rows, session.t(), &solved.plan)?,
-        lines: lines_time(rt, packets)?,
     })
 }
 
@@ -165,8 +159,7 @@ fn print_best<C: Ledger, L: Ledger>(
     println!(rt; "{name} operations {}", best.operations)?;
     println!(rt; "{name} offers {}", best.offers)?;
     println!(rt; "{name} solve {}", best.solve)?;
-    println!(rt; "{name} rows {}", best.rows)?;
-    println!(rt; "{name} lines {}", best.lines)
+    println!(rt; "{name} rows {}", best.rows)
 }
 
 // Times a case whose numbers are those of a session.
@@ -187,8 +180,7 @@ fn print_case<C: Ledger, L: Ledger>(
 }
 
 /// Times receiving and solving in three cases. Each line has the case, what is told, and its number: the kept packets,
-/// the operations of the plan, and the nanoseconds of receiving (`offers`), of solving, of as many row operations, and
-/// of making the lines that `show` writes.
+/// the operations of the plan, and the nanoseconds of receiving (`offers`), of solving, and of as many row operations.
 pub fn print_solve_times<C: Ledger, L: Ledger, R: Clock + Print + AllocGlobal + Threads + Sync>(
     rt: &R,
     coef_blank: Blank,
