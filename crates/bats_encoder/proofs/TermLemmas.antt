@@ -1,5 +1,5 @@
 -- A payload with the terms of one more contributor.
-use Rattle.std.proofs.Common.{◌≡◌, ◌+◌, ◌<◌, ℕ, zero, suc, List, ◌≤◌, ◌∙◌, sym, ap, subst, get_or, length, arith}
+use Rattle.std.proofs.Common.{◌≡◌, ◌+◌, ◌<◌, ℕ, List, ◌∙◌, sym, ap, get_or, length, arith}
 use Rattle.gf_core.specs.Field.{gf_add, gf_mul, gf_sum}
 use Rattle.gf_core.specs.Rows.{add_scaled_row}
 use Rattle.gf_core.proofs.RowLemmas.{get_or-add_scaled_row}
@@ -30,7 +30,7 @@ HasTerms-more row session file batch j n factor symbol long entry bytes before =
 }
 
 -- a contributor whose factor is 0 adds nothing
-HasTerms-zero : (row : List ℕ) (session : SessionData) (file : List ℕ) (batch : BatchData) (j n : ℕ) → entry_of batch n j ≡ 0
+pub HasTerms-zero : (row : List ℕ) (session : SessionData) (file : List ℕ) (batch : BatchData) (j n : ℕ) → entry_of batch n j ≡ 0
     → HasTerms row session file batch j n → HasTerms row session file batch j (n + 1)
 HasTerms-zero row session file batch j n none before = record {
   each = λ c h.
@@ -39,14 +39,3 @@ HasTerms-zero row session file batch j n none before = record {
       ∙ zero-gf_mul (symbol_byte session file (contributor_of batch n) c) in
       before.each c h ∙ sym (gf_sum-more n term ∙ ap (gf_add (gf_sum n term)) nothing ∙ gf_add-zero (gf_sum n term));
 }
-
--- nor do several
-pub HasTerms-zeros : (row : List ℕ) (session : SessionData) (file : List ℕ) (batch : BatchData) (j n count : ℕ)
-    → ((k : ℕ) → n ≤ k → k < n + count → entry_of batch k j ≡ 0)
-    → HasTerms row session file batch j n → HasTerms row session file batch j (n + count)
-HasTerms-zeros row session file batch j n zero none before = subst (HasTerms row session file batch j) (omega arith) before
-HasTerms-zeros row session file batch j n (suc count) none before =
-    let last : n + count + 1 ≡ n + suc count = omega arith in
-    subst (HasTerms row session file batch j) last
-    (HasTerms-zero row session file batch j (n + count) (none (n + count) (omega arith) (omega arith))
-    (HasTerms-zeros row session file batch j n count (λ k from below. none k from (omega (arith, below))) before))

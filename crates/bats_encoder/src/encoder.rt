@@ -1,4 +1,4 @@
-ghost use Rattle.std.specs.Prelude.{◌≡◌, ◌≢◌, IsTrue, ℕ, ◌+◌, ◌*◌, ◌/◌, ◌^◌, ◌<◌, ◌≤◌, ◌↔◌, length, slice_index, IfOk, IfErr, IsErr, IsOk};
+ghost use Rattle.std.specs.Prelude.{◌≡◌, ◌≢◌, ℕ, ◌+◌, ◌*◌, ◌/◌, ◌^◌, ◌<◌, ◌≤◌, ◌↔◌, length, slice_index, IfOk, IfErr, IsErr, IsOk};
 ghost use Rattle.bats_model.specs.Batch.{batch_of, contributor_of, degree_of, entry_of};
 ghost use Rattle.bats_encoder.specs.Terms.{HasTerms};
 ghost use Rattle.bats_model.specs.Symbol.{symbol_byte};
@@ -115,23 +115,52 @@ fn multiple_of<'a>(session: &Session, file: &'a [u8], batch: &Batch, j: u32, k: 
     }
 }
 
-// Whether the factors of four contributors, from this one on, are 0, as nearly all are in a packet that carries a symbol
-// as it is.
-fn add_nothing(batch: &Batch, j: u32, first: u32) -> bool
+// Adds one contributor to a payload that has those before it. The symbol of a factor of 0 isn't looked up.
+fn add_contributor(
+    payload: &mut [u8],
+    session: &Session,
+    file: &[u8],
+    batch: &Batch,
+    j: u32,
+    k: u32,
+)
     requires column { j < batch.now.columns }
-    requires within { first + 4 ≤ degree_of batch.now }
-    requires counted { degree_of batch.now < 2 ^ 32 }
-    ensures { IsTrue result → (k : ℕ) → first ≤ k → k < first + 4 → entry_of batch.now k j ≡ 0 }
+    requires row { k < degree_of batch.now }
+    requires length { length payload.old ≡ session.now.t }
+    requires before { HasTerms payload.old session.now file.now batch.now j k }
+    ensures { HasTerms payload.new session.now file.now batch.now j (k + 1) }
 {
-    for k in first..first + 4 {
-        if batch.entry(k, j) != Gf::ZERO {
-            return false;
-        }
+    if batch.entry(k, j) == Gf::ZERO {
+        return;
     }
-    true
+    let term = multiple_of(session, file, batch, j, k);
+    add_symbol(payload, term.factor, term.row);
 }
 
-// Adds four contributors, from this one on, to a payload that has those before them.
+// Adds contributors from this one up to another, one by one.
+fn add_one_by_one(
+    payload: &mut [u8],
+    session: &Session,
+    file: &[u8],
+    batch: &Batch,
+    j: u32,
+    first: u32,
+    end: u32,
+)
+    requires column { j < batch.now.columns }
+    requires order { first ≤ end }
+    requires within { end ≤ degree_of batch.now }
+    requires length { length payload.old ≡ session.now.t }
+    requires before { HasTerms payload.old session.now file.now batch.now j first }
+    ensures { HasTerms payload.new session.now file.now batch.now j end }
+{
+    for k in first..end {
+        add_contributor(payload, session, file, batch, j, k);
+    }
+}
+
+// Adds four contributors, from this one on, to a payload that has those before them: one by one where the first factor is
+// 0, as in a packet that carries a symbol as it is nearly all are.
 fn add_four_contributors(
     payload: &mut [u8],
     session: &Session,
@@ -147,10 +176,11 @@ fn add_four_contributors(
     requires before { HasTerms payload.old session.now file.now batch.now j first }
     ensures { HasTerms payload.new session.now file.now batch.now j (first + 4) }
 {
-    if add_nothing(batch, j, first) {
+    let a = multiple_of(session, file, batch, j, first);
+    if a.factor == Gf::ZERO {
+        add_one_by_one(payload, session, file, batch, j, first, first + 4);
         return;
     }
-    let a = multiple_of(session, file, batch, j, first);
     let b = multiple_of(session, file, batch, j, first + 1);
     let c = multiple_of(session, file, batch, j, first + 2);
     let d = multiple_of(session, file, batch, j, first + 3);
@@ -178,10 +208,7 @@ fn fill_payload(payload: &mut [u8], session: &Session, file: &[u8], batch: &Batc
 {
     add_groups(payload, session, file, batch, j);
     let degree = batch.degree();
-    for k in degree / 4 * 4..degree {
-        let term = multiple_of(session, file, batch, j, k);
-        add_symbol(payload, term.factor, term.row);
-    }
+    add_one_by_one(payload, session, file, batch, j, degree / 4 * 4, degree);
 }
 
 // The payload of coded packet j.

@@ -2,13 +2,8 @@ use Rattle.std.proofs.Common.{◌≡◌, ◌+◌, ◌∙◌, sym, subst, length,
 use Rattle.gf_core.specs.Rows.{add_scaled_row}
 use Rattle.gf_core.proofs.RowLemmas.{length-add_scaled_row}
 use Rattle.bats_encoder.specs.Terms.{HasTerms}
-use Rattle.bats_encoder.proofs.TermLemmas.{HasTerms-more, HasTerms-zeros}
+use Rattle.bats_encoder.proofs.TermLemmas.{HasTerms-more}
 use Rattle.bats_encoder.proofs.encoder.add_four_contributors.Goals as goal
-
-pub returns-then-add_nothing : goal.returns-then-add_nothing
-returns-then-add_nothing c =
-    HasTerms-zeros c.args.payload.now c.args.session.now c.args.file.now c.args.batch.now c.args.j c.args.first 4
-    (c.add_nothing.ensures c.if-add_nothing.true) c.requires.before
 
 pub returns : goal.returns
 returns c =
