@@ -192,12 +192,6 @@ read_by-ranges known build within words command h =
     option_and_then_some _ (read_items known words) command h (λ items items_is rest.
     within (λ name. value_of name items) (λ name. is_there name items) command rest)
 
--- so has what the code answers
-pub read_by-within : (known : KnownNames) (build : Builder) → IsWithin build → (words : List (List ℕ)) (result : Result Command WordsEnd)
-    → IsAnswer (read_by known build words) result → IfOk result InRanges
-read_by-within known build within words (Ok command) h = read_by-ranges known build within words command h
-read_by-within known build within words (Err end) h = tt
-
 by_choice : (b : Bool) (o p : Option Command) (command : Command) → (o ≡ Some command → InRanges command)
     → (p ≡ Some command → InRanges command) → cond b o p ≡ Some command → InRanges command
 by_choice true o p command first other h = first h
@@ -219,3 +213,8 @@ command_of-ranges (name ∷ words) command h =
     by_choice _ _ _ command (read_by-ranges show_names show_of show_of-ranges words command) (
     by_choice _ _ _ command (read_by-ranges trial_names trial_of trial_of-ranges words command) (
     by_choice _ _ _ command (read_by-ranges help_names help_of help_of-ranges words command) (no_command command)))))))) h
+
+-- so has what the code answers
+pub command_of-within : (words : List (List ℕ)) (result : Result Command WordsEnd) → IsAnswer (command_of words) result → IfOk result InRanges
+command_of-within words (Ok command) h = command_of-ranges words command h
+command_of-within words (Err end) h = tt

@@ -5,9 +5,11 @@ ghost use Rattle.bats_words.specs.Options.{InRanges};
 ghost use Rattle.bats_words.specs.Words.{command_of, read_by, source_of, source_names, relay_of, relay_names};
 ghost use Rattle.bats_words.specs.Words.{sink_of, sink_names, check_of, check_names, show_of, show_names};
 ghost use Rattle.bats_words.specs.Words.{help_of, help_names};
+ghost use Rattle.bats_words.specs.steps.Named.{named};
 ghost use Rattle.bats_words.specs.steps.Matched.{IsFlag, is_set, value_in, source_given, sink_given, check_given};
 
 mod items;
+mod names;
 mod networks;
 mod options;
 mod rules;
@@ -17,6 +19,7 @@ mod values;
 
 use crate::command::Command;
 use crate::words::items::{Names, are_read};
+use crate::words::names::{Name, name_of};
 use crate::words::networks::{replay, trial};
 use crate::words::options::{flag, number, rule, seed, workers};
 use crate::words::rules::{check_rules, relay_rules, sink_rules, source_rules};
@@ -31,19 +34,28 @@ pub fn parse(words: &Vec<String>) -> Result<Command, WordsEnd>
     ensures ranges { IfOk result InRanges }
 {
     let alloc = *words.allocator();
-    let Some((name, rest)) = words.split_first() else {
+    let Some((first, rest)) = words.split_first() else {
         return Err(WordsEnd::Usage);
     };
-    match name.as_str() {
-        "source" => source(alloc, rest),
-        "relay" => relay(alloc, rest),
-        "sink" => sink(alloc, rest),
-        "replay" => replay(alloc, rest),
-        "check" => check(alloc, rest),
-        "show" => show(rest),
-        "trial" => trial(alloc, rest),
-        "help" => help(rest),
-        _ => Err(WordsEnd::Usage),
+    let Some(name) = name_of(first.as_str()) else {
+        return Err(WordsEnd::Usage);
+    };
+    named(alloc, name, rest)
+}
+
+// The command that the words behind this name are, if they are one.
+fn named(alloc: Global, name: Name, words: &[String]) -> Result<Command, WordsEnd>
+    ensures { IsAnswer (named name (map string_bytes words.now)) result }
+{
+    match name {
+        Name::Source => source(alloc, words),
+        Name::Relay => relay(alloc, words),
+        Name::Sink => sink(alloc, words),
+        Name::Replay => replay(alloc, words),
+        Name::Check => check(alloc, words),
+        Name::Show => show(words),
+        Name::Trial => trial(alloc, words),
+        Name::Help => help(words),
     }
 }
 
