@@ -14,8 +14,3 @@ mod slot;
 pub use basis::Basis;
 pub use held::{Held, HeldEnd, MAX_KEPT};
 pub use laws::{contradictions_are_told, held_batches_stand_for_all};
-
-#[cfg(test)]
-mod held_tests;
-#[cfg(test)]
-mod tests;

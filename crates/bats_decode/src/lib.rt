@@ -10,6 +10,3 @@ mod elimination;
 mod payload_rows;
 
 pub use decoder::{Decoder, Solved};
-
-#[cfg(test)]
-mod tests;

@@ -9,6 +9,3 @@ mod rows;
 
 pub use dense::{Dense, reduce};
 pub use laws::completed_values_solve;
-
-#[cfg(test)]
-mod tests;

@@ -226,26 +226,3 @@ fn payload_of(
     fill_payload(&mut payload, session, file, batch, j);
     Ok(payload)
 }
-
-#[cfg(test)]
-mod tests {
-    use super::*;
-    use std::test::Fail;
-
-    fn session(length: u64) -> Option<Session> {
-        Session::new(2, 2, length, 0, true, [0; 16]).ok()
-    }
-
-    #[test]
-    fn refuses_a_file_of_another_length(rt: HostRuntime) -> Result<(), Fail> {
-        let session = session(4).ok_or("a session")?;
-        let file = Bytes::copy_of(rt.alloc(), &[1, 2, 3])?;
-        let refused = Encoder::new(rt.alloc(), session, file).err();
-        let lengths = OtherLength {
-            found: 3,
-            declared: 4,
-        };
-        assert_eq!(rt; refused, Some(lengths));
-        Ok(())
-    }
-}

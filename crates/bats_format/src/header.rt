@@ -141,38 +141,3 @@ pub fn read_header(bytes: &[u8; 32]) -> Result<Session, HeaderField>
         None => Ok(session_in(bytes)),
     }
 }
-
-#[cfg(test)]
-mod tests {
-    use super::*;
-
-    // 2 packets a batch, 1 byte a symbol, a file of 5 bytes, table 1.
-    const HEADER: [u8; 32] = *b"BTS\x01\x02\x01\0\x01\0\0\0\0\0\0\0\x05abcdefghijklmnop";
-
-    #[test]
-    fn writes_and_reads_a_header(rt: HostRuntime) {
-        let session = Session::new(2, 1, 5, 1, false, *b"abcdefghijklmnop");
-        assert!(rt; session.is_ok());
-        if let Ok(session) = session {
-            assert_eq!(rt; header_bytes(&session), HEADER);
-            assert_eq!(rt; read_header(&HEADER), Ok(session));
-        }
-    }
-
-    #[test]
-    fn tells_the_first_broken_field(rt: HostRuntime) {
-        for (place, byte, field) in [
-            (11, 1, HeaderField::Length),
-            (6, 9, HeaderField::SymbolSize),
-            (5, 0x10, HeaderField::Mode),
-            (4, 33, HeaderField::BatchSize),
-            (3, 2, HeaderField::Version),
-            (2, b'T', HeaderField::Magic),
-        ] {
-            let mut bytes = HEADER;
-            bytes[place] = byte;
-            bytes[15] = 6;
-            assert_eq!(rt; read_header(&bytes), Err(field));
-        }
-    }
-}

@@ -16,6 +16,3 @@ pub use laws::{
 };
 pub use reader::Reader;
 pub use writing::{WriteFault, write_header, write_packet};
-
-#[cfg(test)]
-mod tests;

@@ -70,36 +70,3 @@ pub fn write_packet<K: Sink>(
     write_bytes(sink, packet.coefs.as_slice())?;
     write_bytes(sink, packet.payload.as_slice())
 }
-
-#[cfg(test)]
-mod tests {
-    use super::*;
-    use bats_io::MemSink;
-    use bats_model::Bytes;
-    use std::test::Fail;
-
-    const HEADER: [u8; 32] = *b"BTS\x01\x02\x80\0\x02\0\0\0\0\0\0\0\x04abcdefghijklmnop";
-
-    #[test]
-    fn writes_records(rt: HostRuntime) -> Result<(), Fail> {
-        let alloc = rt.alloc();
-        let session = Session::new(2, 2, 4, 0, true, *b"abcdefghijklmnop");
-        let session = session.ok().ok_or("within the limits")?;
-        let packet = Packet {
-            batch: 0x0102_0304,
-            coefs: Bytes::copy_of(alloc, &[5, 6])?,
-            payload: Bytes::copy_of(alloc, &[7, 8])?,
-        };
-        let mut sink = MemSink::with_room(alloc, 45, 3, Vec::new(alloc))?;
-        assert_eq!(rt; write_header(&mut sink, &session), Ok(()));
-        assert_eq!(rt; sink.written(), HEADER.as_slice());
-        assert_eq!(rt; write_packet(&mut sink, &session, &packet), Ok(()));
-        assert_eq!(rt;
-            &sink.written()[32..],
-            b"P\x01\x02\x03\x04\x05\x06\x07\x08".as_slice()
-        );
-        assert_eq!(rt; write_packet(&mut sink, &session, &packet), Err(WriteFault));
-        assert_eq!(rt; &sink.written()[41..], b"P\x01\x02\x03".as_slice());
-        Ok(())
-    }
-}

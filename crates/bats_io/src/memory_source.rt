@@ -95,29 +95,3 @@ impl Source for MemSource {
         Ok(n)
     }
 }
-
-#[cfg(test)]
-mod tests {
-    use super::*;
-    use std::test::Fail;
-
-    #[test]
-    fn goes_on_after_a_failed_read(rt: HostRuntime) -> Result<(), Fail> {
-        let alloc = rt.alloc();
-        let mut source = MemSource::new(b"abcde".to_vec(alloc)?, 2, vec![in alloc; 2]?);
-        let mut buf = [0; 4];
-        assert_eq!(rt; source.read(&mut buf), Ok(2));
-        assert_eq!(rt; &buf, b"ab\0\0");
-        assert_eq!(rt; source.read(&mut buf), Err(Failed));
-        assert_eq!(rt; &buf, b"ab\0\0");
-        assert_eq!(rt; source.schedule.faults, 1);
-        assert_eq!(rt; source.read(&mut buf), Ok(2));
-        assert_eq!(rt; &buf, b"cd\0\0");
-        assert_eq!(rt; source.read(&mut buf[..1]), Ok(1));
-        assert_eq!(rt; &buf, b"ed\0\0");
-        assert_eq!(rt; source.read(&mut buf), Ok(0));
-        assert_eq!(rt; source.schedule.faults, 1);
-        assert_eq!(rt; source.schedule.calls, 5);
-        Ok(())
-    }
-}

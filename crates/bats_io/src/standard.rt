@@ -2,7 +2,7 @@
 // the writer below tells them, its clauses are passed on.
 ghost use Rattle.std.specs.Prelude.{◌≡◌, ◌<◌, ◌≤◌, None, true, false, length, IfOk, OnOk, OnErr};
 ghost use Rattle.std.specs.Io.KnownBytes.{Keeps, ReadConsumes, WriteAppends};
-ghost use Rattle.bats_io.specs.Faults.{Rose};
+ghost use Rattle.bats_io.specs.Faults.{Rose, raised};
 ghost use Rattle.bats_io.specs.Standard.{reader_of, source_faults, writer_of, sink_faults, sink_flushed};
 
 use crate::{Failed, Sink, Source};
@@ -35,6 +35,9 @@ impl<R: Read> Source for StdSource<R> {
         ensures within { IfOk result (λ n. n ≤ length buf.old) }
         ensures no_fault { OnOk result (source_faults self.new ≡ source_faults self.old) }
         ensures failed { OnErr result (Rose (source_faults self.old) (source_faults self.new)) }
+
+        // How many faults there are.
+        ensures counted { OnErr result (source_faults self.new ≡ raised (source_faults self.old)) }
 
         // What the reader did.
         ensures passed_on { ReadConsumes (R.remaining (reader_of self.old))
@@ -90,6 +93,10 @@ impl<W: Write> Sink for StdSink<W> {
         ensures no_fault { OnOk result (sink_faults self.new ≡ sink_faults self.old) }
         ensures failed { OnErr result (Rose (sink_faults self.old) (sink_faults self.new)) }
 
+        // How many faults there are, and what a failure keeps.
+        ensures counted { OnErr result (sink_faults self.new ≡ raised (sink_faults self.old)) }
+        ensures flushed_kept { OnErr result (sink_flushed self.new ≡ sink_flushed self.old) }
+
         // What the writer did.
         ensures passed_on { WriteAppends (W.contents (writer_of self.old))
             (W.contents (writer_of self.new)) result piece.now }
@@ -112,6 +119,10 @@ impl<W: Write> Sink for StdSink<W> {
         ensures no_fault { OnOk result (sink_faults self.new ≡ sink_faults self.old) }
         ensures failed { OnErr result (Rose (sink_faults self.old) (sink_faults self.new)) }
 
+        // How many faults there are, and what a failure keeps.
+        ensures counted { OnErr result (sink_faults self.new ≡ raised (sink_faults self.old)) }
+        ensures flushed_kept { OnErr result (sink_flushed self.new ≡ sink_flushed self.old) }
+
         // What the writer did.
         ensures passed_on { Keeps (W.contents (writer_of self.old)) (W.contents (writer_of self.new)) }
     {
@@ -125,136 +136,5 @@ impl<W: Write> Sink for StdSink<W> {
                 Err(Failed)
             }
         }
-    }
-}
-
-#[cfg(test)]
-mod tests {
-    use super::*;
-    use std::io;
-    use std::test::Fail;
-
-    // Fails at the first read, and gives the byte 7 at each later one.
-    #[derive(Drop)]
-    struct LateReader {
-        calls: u32,
-    }
-
-    impl Read for LateReader {
-        fn read(&mut self, buf: &mut [u8]) -> io::Result<usize> {
-            self.calls = self.calls.saturating_add(1);
-            if self.calls == 1 {
-                return Err(io::Error::from(io::ErrorKind::Interrupted));
-            }
-            let Some(first) = buf.first_mut() else {
-                return Ok(0);
-            };
-            *first = 7;
-            Ok(1)
-        }
-    }
-
-    // Fails at the first write and the first flush, or takes no byte at the first write, and does each later one.
-    #[derive(Drop)]
-    struct LateWriter {
-        takes_nothing: bool,
-        writes: u32,
-        flushes: u32,
-    }
-
-    impl Write for LateWriter {
-        fn write(&mut self, piece: &[u8]) -> io::Result<usize> {
-            self.writes = self.writes.saturating_add(1);
-            if self.writes > 1 {
-                return Ok(piece.len());
-            }
-            if self.takes_nothing {
-                return Ok(0);
-            }
-            Err(io::Error::from(io::ErrorKind::Interrupted))
-        }
-
-        fn flush(&mut self) -> io::Result<()> {
-            self.flushes = self.flushes.saturating_add(1);
-            if self.flushes > 1 {
-                return Ok(());
-            }
-            Err(io::Error::from(io::ErrorKind::Interrupted))
-        }
-    }
-
-    #[test]
-    fn reads_and_counts_errors(rt: HostRuntime) -> Result<(), Fail> {
-        let mut buf = [0; 4];
-        let mut source = StdSource::new(b"abc".as_slice());
-        assert_eq!(rt; source.read(&mut buf), Ok(3));
-        assert_eq!(rt; &buf, b"abc\0");
-        assert_eq!(rt; source.read(&mut buf), Ok(0));
-        assert_eq!(rt; source.faults, 0);
-        Ok(())
-    }
-
-    #[test]
-    fn reads_once_a_call(rt: HostRuntime) {
-        let mut buf = [0; 4];
-        let mut source = StdSource::new(LateReader { calls: 0 });
-        assert_eq!(rt; source.read(&mut buf), Err(Failed));
-        assert_eq!(rt; source.faults, 1);
-        assert_eq!(rt; source.inner.calls, 1);
-        assert_eq!(rt; source.read(&mut buf), Ok(1));
-        assert_eq!(rt; &buf, b"\x07\0\0\0");
-        assert_eq!(rt; source.faults, 1);
-        assert_eq!(rt; source.inner.calls, 2);
-    }
-
-    #[test]
-    fn writes_and_counts_errors(rt: HostRuntime) -> Result<(), Fail> {
-        let mut sink = StdSink::new(Vec::new(rt.alloc()));
-        assert_eq!(rt; sink.write(b"abc"), Ok(3));
-        assert!(rt; !sink.flushed);
-        assert_eq!(rt; sink.flush(), Ok(()));
-        assert!(rt; sink.flushed);
-        assert_eq!(rt; sink.inner.as_slice(), b"abc".as_slice());
-        assert_eq!(rt; sink.faults, 0);
-        Ok(())
-    }
-
-    #[test]
-    fn writes_once_a_call(rt: HostRuntime) {
-        for takes_nothing in [false, true] {
-            let writer = LateWriter {
-                takes_nothing,
-                writes: 0,
-                flushes: 0,
-            };
-            let mut sink = StdSink::new(writer);
-            assert_eq!(rt; sink.write(b"abc"), Err(Failed));
-            assert_eq!(rt; sink.faults, 1);
-            assert_eq!(rt; sink.inner.writes, 1);
-            assert_eq!(rt; sink.write(b"abc"), Ok(3));
-            assert_eq!(rt; sink.faults, 1);
-            assert_eq!(rt; sink.inner.writes, 2);
-            assert_eq!(rt; sink.inner.flushes, 0);
-        }
-    }
-
-    #[test]
-    fn flushes_once_a_call(rt: HostRuntime) {
-        let writer = LateWriter {
-            takes_nothing: false,
-            writes: 1,
-            flushes: 0,
-        };
-        let mut sink = StdSink::new(writer);
-        assert_eq!(rt; sink.write(b"abc"), Ok(3));
-        assert_eq!(rt; sink.flush(), Err(Failed));
-        assert!(rt; !sink.flushed);
-        assert_eq!(rt; sink.faults, 1);
-        assert_eq!(rt; sink.inner.flushes, 1);
-        assert_eq!(rt; sink.flush(), Ok(()));
-        assert!(rt; sink.flushed);
-        assert_eq!(rt; sink.faults, 1);
-        assert_eq!(rt; sink.inner.flushes, 2);
-        assert_eq!(rt; sink.inner.writes, 2);
     }
 }

@@ -21,31 +21,3 @@ pub fn write_whole<K: Sink>(sink: &mut K, bytes: &[u8]) -> Result<(), Failed>
     }
     Ok(())
 }
-
-#[cfg(test)]
-mod tests {
-    use super::*;
-    use crate::MemSink;
-    use std::test::Fail;
-
-    #[test]
-    fn writes_in_pieces(rt: HostRuntime) -> Result<(), Fail> {
-        let alloc = rt.alloc();
-        let mut sink = MemSink::with_room(alloc, 10, 3, Vec::new(alloc))?;
-        assert_eq!(rt; write_whole(&mut sink, b"0123456789"), Ok(()));
-        assert_eq!(rt; write_whole(&mut sink, b""), Ok(()));
-        assert_eq!(rt; sink.written(), b"0123456789".as_slice());
-        Ok(())
-    }
-
-    #[test]
-    fn stops_at_a_failed_write(rt: HostRuntime) -> Result<(), Fail> {
-        let alloc = rt.alloc();
-        let mut sink = MemSink::with_room(alloc, 9, 2, vec![in alloc; 2]?)?;
-        assert_eq!(rt; write_whole(&mut sink, b"abcdef"), Err(Failed));
-        assert_eq!(rt; sink.written(), b"ab".as_slice());
-        assert_eq!(rt; write_whole(&mut sink, b"cd"), Ok(()));
-        assert_eq!(rt; sink.written(), b"abcd".as_slice());
-        Ok(())
-    }
-}

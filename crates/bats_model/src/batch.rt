@@ -128,21 +128,3 @@ impl Batch {
         &self.entries.as_slice()[start..start + width]
     }
 }
-
-#[cfg(test)]
-mod tests {
-    use super::*;
-    use std::test::Fail;
-
-    #[test]
-    fn lends_its_rows(rt: HostRuntime) -> Result<(), Fail> {
-        let mut contributors = Nums::new(rt.alloc());
-        contributors.push(7)?;
-        contributors.push(2)?;
-        let entries = Bytes::copy_of(rt.alloc(), &[3, 4, 5, 6, 0, 255])?;
-        let batch = Batch::new(3, 1, contributors, entries);
-        assert_eq!(rt; batch.row(0), [3, 4, 5].as_slice());
-        assert_eq!(rt; batch.row(1), [6, 0, 255].as_slice());
-        Ok(())
-    }
-}

@@ -20,6 +20,3 @@ pub use laws::{
     few_packets, fixed_parts, one_inactive_list, one_stuck_set, stuck_sets_go_on, stuck_sets_grow,
 };
 pub use peeled::{Peeled, Place, Places, peel};
-
-#[cfg(test)]
-mod tests;

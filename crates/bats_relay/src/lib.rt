@@ -11,6 +11,3 @@ pub use laws::{outputs_agree, outputs_come_one_by_one, relayed_packets_agree};
 pub use mixer::{MAX_OUTPUTS, Mixer};
 pub use relay::Relay;
 pub use rule::{Rule, extra_outputs, fixed_outputs};
-
-#[cfg(test)]
-mod tests;

@@ -10,6 +10,3 @@ mod sampler;
 
 pub use mix::mix_bytes;
 pub use sampler::batch;
-
-#[cfg(test)]
-mod tests;

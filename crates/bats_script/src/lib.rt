@@ -17,6 +17,3 @@ pub use reading::read_script;
 pub use script::Script;
 pub use script_end::{ScriptEnd, ScriptKey};
 pub use trial::trial_file;
-
-#[cfg(test)]
-mod tests;

@@ -13,8 +13,6 @@ mod names;
 mod networks;
 mod options;
 mod rules;
-#[cfg(test)]
-mod tests;
 mod values;
 
 use crate::command::Command;

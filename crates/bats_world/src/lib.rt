@@ -16,6 +16,3 @@ pub use links::Links;
 pub use made::Made;
 pub use seeds::Seeds;
 pub use world::{MAX_POOL, World, WorldStart};
-
-#[cfg(test)]
-mod tests;

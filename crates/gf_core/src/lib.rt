@@ -8,6 +8,3 @@ pub mod laws;
 mod tables;
 
 pub use element::Gf;
-
-#[cfg(test)]
-mod tests;

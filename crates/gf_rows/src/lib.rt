@@ -21,8 +21,3 @@ pub use multiple::Multiple;
 pub use operation::Op;
 pub use plan::Plan;
 pub use steps::Steps;
-
-#[cfg(test)]
-mod kernel_tests;
-#[cfg(test)]
-mod tests;

@@ -1,0 +1,8 @@
+use Rattle.std.proofs.Common.{◌≡◌}
+use Rattle.bats_checks.proofs.tests.holding.fills.Given as goal
+
+abbrev pub invariant-loop-batch : goal.invariant-loop-batch
+invariant-loop-batch g l = l.held.session ≡ l.fn.session
+
+abbrev pub invariant-loop-batch-2 : goal.invariant-loop-batch-2
+invariant-loop-batch-2 g l = l.held.session ≡ l.fn.session

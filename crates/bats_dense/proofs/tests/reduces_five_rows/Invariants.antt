@@ -1,4 +1,0 @@
-use Rattle.bats_dense.proofs.tests.reduces_five_rows.Given as goal
-
-abbrev pub ghosts-five_rows_are_reduced : goal.ghosts-five_rows_are_reduced
-ghosts-five_rows_are_reduced g a = record { name = a.blank.name; parts = a.blank.parts }

@@ -1,5 +1,0 @@
-use Rattle.std.proofs.Common.{◌≡◌}
-use Rattle.bats_relay.proofs.tests.relays.Given as goal
-
-abbrev pub invariant-loop-coefs : goal.invariant-loop-coefs
-invariant-loop-coefs g l = l.relay.rule ≡ l.fn.rule

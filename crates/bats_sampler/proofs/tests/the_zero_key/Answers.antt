@@ -1,9 +1,0 @@
-use Rattle.std.proofs.Common.{◌∙◌, ap}
-use Rattle.bats_model.specs.Batch.{BatchData}
-use Rattle.bats_model.proofs.SystematicBatches.{columns-batch_of}
-use Rattle.bats_sampler.proofs.tests.the_zero_key.Goals as goal
-
-pub entries-requires : goal.entries-requires
-entries-requires g c =
-    ap (λ (batch : BatchData). batch.columns) c.in_ok-found.ensures.value
-    ∙ columns-batch_of c.in_ok-parameters.parameters 0 ∙ c.in_ok-parameters.ensures

@@ -1,4 +1,0 @@
-use Rattle.gf_rows.proofs.tests.changes_rows_of_a_matrix.Given as goal
-
-abbrev pub ghosts-change_matrix : goal.ghosts-change_matrix
-ghosts-change_matrix g a = record { name = a.blank.name; parts = a.blank.parts }
