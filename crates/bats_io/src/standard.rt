@@ -123,7 +123,8 @@ impl<W: Write> Sink for StdSink<W> {
         ensures counted { OnErr result (sink_faults self.new ≡ raised (sink_faults self.old)) }
         ensures flushed_kept { OnErr result (sink_flushed self.new ≡ sink_flushed self.old) }
 
-        // What the writer did.
+        // What the writer did. That it was flushed too is in no clause, since std's `Write` names nothing that a
+        // flush changes: a test counts the calls.
         ensures passed_on { Keeps (W.contents (writer_of self.old)) (W.contents (writer_of self.new)) }
     {
         match self.inner.flush() {
