@@ -143,25 +143,28 @@ def batch_lines(session, kept):
                    for number, list_of_batch in kept.items())
 
 
-def solving(command, data):
-    """Status, notes line and output of `sink` or `check`."""
-    session, records, refusal = read(data)
-    packets = packets_in(records)
-    kept = kept_packets(session, packets) if session else {}
-    count = sum(map(len, kept.values()))
-    if count > MOST_KEPT:
-        return 5, "bats: limit kept", b""
-    if refusal:
-        return (*refusal, b"")
-    kind, value = answer(session, packets)
+def telling(command, session, packets, kept, kind, value):
+    """Status, notes line and output of `sink` or `check` for an answer."""
     said = {"file": " length=%d" % session.length, "inconsistent": "", "need-more": " open=%s" % value}[kind]
-    notes = "%s: %s%s packets=%d kept=%d" % (command, kind, said, len(packets), count)
+    notes = "%s: %s%s packets=%d kept=%d" % (command, kind, said, len(packets), sum(map(len, kept.values())))
     notes += " inactive=%d" % inactive_count(session, kept)
     output = value if kind == "file" else b""
     if command == "check":
         opened = " open %d" % value if kind == "need-more" else ""
         output = (batch_lines(session, kept) + "answer " + kind + opened + "\n").encode()
     return ["file", "need-more", "inconsistent"].index(kind), notes, output
+
+
+def solving(command, data):
+    """Status, notes line and output of `sink` or `check`."""
+    session, records, refusal = read(data)
+    packets = packets_in(records)
+    kept = kept_packets(session, packets) if session else {}
+    if sum(map(len, kept.values())) > MOST_KEPT:
+        return 5, "bats: limit kept", b""
+    if refusal:
+        return (*refusal, b"")
+    return telling(command, session, packets, kept, *answer(session, packets))
 
 
 def show_line(at, record):

@@ -1,4 +1,4 @@
-"""What `make` and `check` share: running the program, and the lines of a vector's NAME.expect."""
+"""What `make`, `check` and `every_file.py` share: running the program, and the lines of a vector's NAME.expect."""
 import os
 import subprocess
 from pathlib import Path

@@ -2,7 +2,6 @@
 ghost use Rattle.std.specs.Prelude.{◌≤◌};
 
 mod answers;
-mod every_file;
 mod faults;
 mod limits;
 mod networks;
