@@ -1,9 +1,9 @@
 -- What is kept of each batch after one packet more, by what becomes of that packet.
-use Rattle.std.proofs.Common.{ℕ, ◌≡◌, ◌+◌, ◌∙◌, ◌==◌, sym, ap, subst, refl, Bool, true, false, cond, List, All, [], ◌∷◌, ◌++◌, map, take, arith, inl, inr}
+use Rattle.std.proofs.Common.{ℕ, ◌≡◌, ◌+◌, ◌∙◌, ◌==◌, sym, ap, subst, refl, Bool, true, false, cond, List, All, [], ◌∷◌, ◌++◌, length, map, take, arith, inl, inr, length-append}
 use Rattle.std.specs.Prelude.{filter}
 use Rattle.std.specs.Bool.{Decides}
 use Rattle.std.proofs.lemmas.Bool.{cases_Bool, eq-eqb, false_from_ne_true}
-use Rattle.std.proofs.lemmas.List.{append-nil}
+use Rattle.std.proofs.lemmas.List.{append-nil, take_at}
 use Rattle.std.proofs.lemmas.List.Elements.{All-nil, All-weaker, All-push}
 use Rattle.gf_core.specs.Combinations.{IsInSpan}
 use Rattle.gf_core.proofs.CombinationLemmas.{take-IsInSpan}
@@ -16,7 +16,7 @@ use Rattle.bats_model.specs.declared.taken.Taken.TheVariants.{Kept, Dependent, C
 use Rattle.bats_model.proofs.NewPackets.{kept_of-push}
 use Rattle.bats_model.proofs.KeptSpans.{HasVector, All-kept_of, is_new-kept, is_of}
 use Rattle.bats_batch.specs.Basis.{BasisData, IsTaken, kept_with, IsSized, StandsForBatch}
-use Rattle.bats_batch.proofs.KeptRows.{length-packet_row, take-packet_row, take-packet_rows}
+use Rattle.bats_batch.proofs.KeptRows.{IsSized-shape, take-packet_rows}
 
 -- those of a batch among at most one packet
 abbrev if_of : ℕ → Bool → Packet → List Packet
@@ -51,28 +51,20 @@ kept_of-push_other batch packets packet other = elim (cases_Bool (is_new packets
   | inr old ↦ kept_of-push_old batch packets packet old
 ]
 
-HasVector-size : (m t : ℕ) (packet : Packet) → IsSized m t packet → HasVector m packet
+pub HasVector-size : (m t : ℕ) (packet : Packet) → IsSized m t packet → HasVector m packet
 HasVector-size m t packet size = record { size = size.coefs; bytes = size.coef_bytes }
 
-IsSized-shape : (session : SessionData) (packet : Packet) → HasShape session packet → IsSized session.m session.t packet
-IsSized-shape session packet shape = record {
-  coefs = shape.coefs;
-  payload = shape.payload;
-  coef_bytes = shape.coef_bytes;
-  payload_bytes = shape.payload_bytes;
-}
-
 -- the vector of a packet that follows is a combination of the kept ones
-combination-follows : (m t : ℕ) (kept : List Packet) (packet : Packet) → All (IsSized m t) kept → IsSized m t packet → Follows kept packet
-    → IsCombination (coefs_of kept) packet.coefs
-combination-follows m t kept packet sizes size follows =
+pub combination-follows : (m t : ℕ) (kept : List Packet) (packet : Packet) → All (IsSized m t) kept → length packet.coefs ≡ m
+    → length packet.payload ≡ t → Follows kept packet → IsCombination (coefs_of kept) packet.coefs
+combination-follows m t kept packet sizes coefs payload follows =
     let rows : List (List ℕ) = map packet_row kept in
-    let whole : IsInSpan (m + t) rows (packet_row packet) =
-    subst (λ (width : ℕ). IsInSpan width rows (packet_row packet)) (length-packet_row m t packet size) follows in
+    let width : length (packet_row packet) ≡ m + t = omega (arith, length-append packet.coefs packet.payload, coefs, payload) in
+    let whole : IsInSpan (m + t) rows (packet_row packet) = subst (λ (n : ℕ). IsInSpan n rows (packet_row packet)) width follows in
     let front : IsInSpan m (map (take m) rows) (take m (packet_row packet)) =
     take-IsInSpan (m + t) m rows (packet_row packet) (omega arith) whole in
-    subst (λ (width : ℕ). IsInSpan width (coefs_of kept) packet.coefs) (sym size.coefs)
-    (subst (IsInSpan m (coefs_of kept)) (take-packet_row m t packet size)
+    subst (λ (n : ℕ). IsInSpan n (coefs_of kept) packet.coefs) (sym coefs)
+    (subst (IsInSpan m (coefs_of kept)) (take_at packet.coefs packet.payload m coefs)
     (subst (λ (vectors : List (List ℕ)). IsInSpan m vectors (take m (packet_row packet))) (take-packet_rows m t kept sizes) front))
 
 module _ (m t : ℕ) (packets : List Packet) (packet : Packet) (sizes : All (IsSized m t) packets) (size : IsSized m t packet) where
@@ -91,7 +83,7 @@ module _ (m t : ℕ) (packets : List Packet) (packet : Packet) (sizes : All (IsS
   kept_of-taken_sized Kept is = kept_of-push_new packets packet (decides.1 is)
   kept_of-taken_sized Dependent is =
       stays (combination-follows m t (kept_of packet.batch packets) packet
-      (All-kept_of (IsSized m t) packet.batch packets sizes) size is)
+      (All-kept_of (IsSized m t) packet.batch packets sizes) size.coefs size.payload is)
   kept_of-taken_sized Contradiction is = stays is.combination
 
 -- and so for packets of a session's shape

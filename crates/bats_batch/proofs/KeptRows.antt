@@ -11,8 +11,18 @@ use Rattle.gf_core.specs.Triangular.{AreRows}
 use Rattle.gf_core.proofs.CombinationLemmas.{length-combination}
 use Rattle.bats_model.specs.declared.packet.Packet.{Packet}
 use Rattle.bats_model.specs.Kept.{coefs_of, packet_row}
+use Rattle.bats_model.specs.Session.{SessionData}
+use Rattle.bats_model.specs.PacketFile.{HasShape}
 use Rattle.bats_model.specs.Relay.{payloads_of}
 use Rattle.bats_batch.specs.Basis.{IsSized}
+
+pub IsSized-shape : (session : SessionData) (packet : Packet) → HasShape session packet → IsSized session.m session.t packet
+IsSized-shape session packet shape = record {
+  coefs = shape.coefs;
+  payload = shape.payload;
+  coef_bytes = shape.coef_bytes;
+  payload_bytes = shape.payload_bytes;
+}
 
 pub length-packet_row : (m t : ℕ) (packet : Packet) → IsSized m t packet → length (packet_row packet) ≡ m + t
 length-packet_row m t packet size = omega (arith, length-append packet.coefs packet.payload, size.coefs, size.payload)

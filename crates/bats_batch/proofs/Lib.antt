@@ -9,6 +9,7 @@ pub mod Offering
 pub mod KeptAfter
 pub mod KeptOfBatches
 pub mod HeldBatches
+pub mod HeldNumbers
 pub mod RowCounts
 pub mod Places
 pub mod Offers

@@ -5,15 +5,12 @@ use Rattle.std.proofs.lemmas.Bool.{cases_Bool, cases_eq, eqb-true, eq-eqb, ne_eq
 use Rattle.std.proofs.lemmas.List.Elements.{All-head, All-tail}
 use Rattle.std.proofs.lemmas.List.Filters.{length-filter_both}
 use Rattle.std.proofs.lemmas.List.Sums.{sum_by-cons}
+use Rattle.bats_model.specs.Kept.{packets_in}
 use Rattle.bats_model.specs.declared.packet.Packet.{Packet}
 use Rattle.bats_batch.specs.Held.{HeldBatch, kept_at, row_count, HaveRisingNumbers}
 use Rattle.bats_batch.proofs.HeldBatches.{kept_at-absent}
 
--- the packets of a batch
-abbrev packets_in : ℕ → List Packet → List Packet
-packets_in batch packets = filter (λ packet. packet.batch == batch) packets
-
--- and those of other batches
+-- the packets of other batches
 abbrev others_of : ℕ → List Packet → List Packet
 others_of batch packets = filter (λ packet. not (packet.batch == batch)) packets
 

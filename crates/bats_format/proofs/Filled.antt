@@ -2,7 +2,8 @@
 use Rattle.std.proofs.Common.{◌≡◌, ℕ, ◌+◌, ◌<◌, ◌≤◌, List, [], ◌++◌, length, take, Option, None, Some, Result, Ok, Err, refl, sym, ap, subst, ◌∙◌, arith, length-append, length-take}
 use Rattle.std.proofs.lemmas.List.{take-append-le}
 use Rattle.std.proofs.Math.Seq.{take-append-add}
-use Rattle.std.specs.Result.{IsErr}
+use Rattle.std.specs.Result.{IsErr, IsErrAnd}
+use Rattle.std.proofs.lemmas.Result.{err_from_is_err_and}
 use Rattle.bats_io.specs.Faults.{Rose}
 use Rattle.bats_io.specs.Streams.{InputState, IsTold, IsRead, IsEnded}
 use Rattle.bats_io.proofs.ReadLemmas.{IsRead-after, IsTold-after, IsTold-read}
@@ -128,3 +129,35 @@ pub FillsPart-after : {before between after : InputState} {offset : ℕ} {part m
     → FillsPart before between offset part (Ok tt) → FillsPart between after offset more result → FillsPart before after offset (part ++ more) result
 FillsPart-after {before} {between} {after} {offset} {part} {more} {result} p q =
     record { as_far = later_part before between after offset part more result p.as_far q.as_far }
+
+longer_part : (before after : InputState) (offset : ℕ) (part more : List ℕ) (end : ReadEnd)
+    → PartIsFilled before after offset part (Err end) → PartIsFilled before after offset (part ++ more) (Err end)
+longer_part before after offset part more ends.ReadFault f = record {
+  fault = f.fault;
+  read = record { bytes = f.read.bytes; read = f.read.read; within = omega (arith, length-append part more, f.read.within) };
+}
+longer_part before after offset part more (ends.Truncated at) e = (
+  e.0,
+  record {
+    left = e.1.left;
+    told = e.1.told;
+    short = omega (arith, length-append part more, e.1.short);
+    read = e.1.read;
+    no_fault = e.1.no_fault;
+  },
+)
+longer_part before after offset part more ends.Memory e = e
+longer_part before after offset part more ends.NoHeader e = e
+longer_part before after offset part more (ends.BadHeader field) e = e
+longer_part before after offset part more (ends.BadTag at byte) e = e
+longer_part before after offset part more (ends.OtherSession at) e = e
+longer_part before after offset part more ends.TooManyRecords e = e
+
+-- where a part wasn't filled, neither was it and another
+pub FillsPart-longer : {before after : InputState} {offset : ℕ} {part : List ℕ} {end : ReadEnd} (more : List ℕ) (result : Result (Unit {0}) ReadEnd)
+    → IsErrAnd result (λ cause. cause ≡ end) → FillsPart before after offset part (Err end) → FillsPart before after offset (part ++ more) result
+FillsPart-longer {before} {after} {offset} {part} {end} more result is p =
+    let cause = err_from_is_err_and result is in
+    let failed : result ≡ Err end = cause.1 ∙ ap Err cause.2 in
+    subst (FillsPart before after offset (part ++ more)) (sym failed)
+    (record { as_far = longer_part before after offset part more end p.as_far })

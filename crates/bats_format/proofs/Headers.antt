@@ -1,18 +1,19 @@
 -- Header records, field by field: what a session's bytes hold, and which session bytes hold.
-use Rattle.std.proofs.Common.{◌≡◌, ℕ, zero, suc, ◌+◌, ◌*◌, ◌%◌, ◌^◌, ◌<◌, ◌≤◌, Bool, true, false, not, nat_le, ◌==◌, ◌&&◌, cond, mul-le-mul, List, [], ◌∷◌, ◌++◌, length, take, drop, get_or, slice_index, codes, Option, Some, None, Result, IsErrOf, ◌↔◌, ◌⊎◌, subst, ap₂, refl, sym, ap, ◌∙◌, arith}
+use Rattle.std.proofs.Common.{◌≡◌, ℕ, zero, suc, ◌+◌, ◌%◌, ◌<◌, ◌≤◌, Bool, true, false, not, nat_le, ◌==◌, ◌&&◌, cond, List, [], ◌∷◌, ◌++◌, length, take, drop, get_or, slice_index, codes, Option, Some, None, Result, IsErrOf, ◌↔◌, ◌⊎◌, subst, ap₂, refl, sym, ap, ◌∙◌, arith}
 use Rattle.std.proofs.Math.Seq.{drop-cons}
 use Rattle.std.proofs.lemmas.List.{append-nil, drop-drop, take-append-drop, length-take, length-drop, get_or-drop}
-use Rattle.std.proofs.lemmas.Grind.{div_ceil_times}
+use Rattle.std.proofs.lemmas.Bool.{not-false}
 use Rattle.std.proofs.lemmas.Bool.Decides.{nat_tests}
 use Rattle.std.proofs.lemmas.Nat.{from_be_bytes-to_be_bytes_2, from_be_bytes-to_be_bytes_8}
 use Rattle.std.proofs.lemmas.Slice.Eq.{bytes_eq-Decides}
 use Rattle.std.specs.Int.{w16, w64, to_be_bytes}
 use Rattle.bats_model.specs.declared.session.BadSession.{BadSession}
 use Rattle.bats_model.specs.declared.session.BadSession.TheVariants as ends
-use Rattle.bats_model.specs.Session.{SessionData, IsSession, symbol_count, symbols_of}
+use Rattle.bats_model.specs.Session.{SessionData, IsSession, symbol_count}
 use Rattle.bats_model.specs.Records.{header_record, mode_of}
 use Rattle.bats_model.specs.Refusal.{first_broken, symbol_size_in, length_in}
 use Rattle.bats_format.proofs.Numbers.{bytes-two, bytes-eight}
+use Rattle.bats_format.proofs.RecordLemmas.{file_length-fits}
 
 -- the session that 32 bytes hold
 abbrev pub session_of : List ℕ → SessionData
@@ -55,10 +56,6 @@ range-test n most h = grind (arith, nat_tests)
 
 range-passes : (n most : ℕ) → 1 ≤ n → n ≤ most → not (nat_le 1 n && nat_le n most) ≡ false
 range-passes n most low high = grind (arith, nat_tests)
-
-not-false : (test : Bool) → not test ≡ false → test ≡ true
-not-false true h = refl
-not-false false h = cc
 
 -- a test that was passed, and the tests after it
 pub passed : {X : Type 0} (test : Bool) (x : X) (rest : Option X) → cond test (Some x) rest ≡ None → (test ≡ false) × (rest ≡ None)
@@ -159,20 +156,13 @@ mode-systematic : (systematic : Bool) (table : ℕ) → table < 2 → nat_le 128
 mode-systematic true table low = grind (arith, nat_tests)
 mode-systematic false table low = grind (arith, nat_tests)
 
--- the file of a session is short enough for eight bytes
-length-small : (session : SessionData) → IsSession session → session.file_length < 2 ^ 64
-length-small session is =
-    let covered = (div_ceil_times session.file_length session.t is.t_low).0 in
-    let symbols : symbols_of session * session.t ≤ 4096 * 2048 = mul-le-mul is.symbols is.t_high in
-    omega arith
-
 symbol_size-header_record : (session : SessionData) → IsSession session → symbol_size_in (header_record session) ≡ session.t
 unfolding header_record
 symbol_size-header_record session is = from_be_bytes-to_be_bytes_2 session.t (let h = is.t_high in omega arith)
 
 length-header_record : (session : SessionData) → IsSession session → length_in (header_record session) ≡ session.file_length
 unfolding header_record
-length-header_record session is = from_be_bytes-to_be_bytes_8 session.file_length (length-small session is)
+length-header_record session is = from_be_bytes-to_be_bytes_8 session.file_length (file_length-fits session is)
 
 pub session_of-header_record : (session : SessionData) → IsSession session → session_of (header_record session) ≡ session
 unfolding header_record

@@ -41,22 +41,6 @@ pub(crate) fn fill_part<S: Source>(source: &mut S, at: u64, part: &mut [u8]) -> 
     }
 }
 
-/// Fills two parts of the record that begins at the offset `at`, one after the other.
-pub(crate) fn fill_two<S: Source>(
-    source: &mut S,
-    at: u64,
-    first: &mut [u8],
-    second: &mut [u8],
-) -> Result<(), ReadEnd>
-    ensures { FillsPart
-        (S.state source.old)
-        (S.state source.new)
-        at (first.new ++ second.new) result }
-{
-    fill_part(source, at, first)?;
-    fill_part(source, at, second)
-}
-
 /// Fills three parts of the record that begins at the offset `at`, one after the other.
 pub(crate) fn fill_three<S: Source>(
     source: &mut S,
@@ -70,6 +54,7 @@ pub(crate) fn fill_three<S: Source>(
         (S.state source.new)
         at (first.new ++ second.new ++ third.new) result }
 {
-    fill_two(source, at, first, second)?;
+    fill_part(source, at, first)?;
+    fill_part(source, at, second)?;
     fill_part(source, at, third)
 }

@@ -10,6 +10,8 @@ use Rattle.gf_core.specs.Bytes.{AreBytes}
 use Rattle.gf_core.specs.Combinations.{IsInSpan}
 use Rattle.gf_core.proofs.LinearRows.{AreRows}
 use Rattle.gf_core.proofs.CombinationLemmas.{IsInSpan-push, IsInSpan-last, IsInSpan-each, IsInSpan-trans}
+use Rattle.bats_model.specs.Session.{SessionData}
+use Rattle.bats_model.specs.PacketFile.{HasShape}
 use Rattle.bats_model.specs.Kept.{IsCombination, is_combination, coefs_of, vectors_of, is_new, new_after, kept_of}
 use Rattle.bats_model.specs.declared.packet.Packet.{Packet}
 use Rattle.bats_model.proofs.NewPackets.{is_combination-Decides, is_new-Decides, if_new, kept_of-push}
@@ -22,6 +24,9 @@ is_of batch packet = packet.batch == batch
 pub record HasVector (m : ℕ) (packet : Packet) : Type 0 where
   pub size : length packet.coefs ≡ m
   pub bytes : AreBytes packet.coefs
+
+pub HasVector-shape : (session : SessionData) (packet : Packet) → HasShape session packet → HasVector session.m packet
+HasVector-shape session packet shape = record { size = shape.coefs; bytes = shape.coef_bytes }
 
 pub AreRows-coefs : (m : ℕ) (packets : List Packet) → All (HasVector m) packets → AreRows m (coefs_of packets)
 AreRows-coefs m packets all = record {

@@ -3,6 +3,7 @@ pub mod EachBatch
 pub mod SymbolValues
 pub mod NewPackets
 pub mod KeptSpans
+pub mod RisingNumbers
 pub mod PacketRows
 pub mod KeptAgreement
 pub mod RightAnswers

@@ -19,7 +19,7 @@ pub use batch::Batch;
 pub use bytes::Bytes;
 pub use item::Item;
 pub use laws::{combinations_are_told, each_list_has_an_answer, kept_packets_stand_for_all};
-pub use numbers::Nums;
+pub use numbers::{Items, Nums};
 pub use packet::Packet;
 pub use read_end::{HeaderField, ReadEnd};
 pub use session::{BadSession, MAX_BATCH_SIZE, MAX_SYMBOL_SIZE, MAX_SYMBOLS, Session};

@@ -3,32 +3,35 @@ ghost use Rattle.std.specs.Prelude.{◌≡◌, [], ◌∷◌, ◌++◌, length, 
 use std::alloc::{AllocError, Global};
 use std::marker::Model;
 
-/// A list of numbers below 2^32.
+/// A list of items, as contracts see it.
 #[derive(Debug, Drop)]
-pub struct Nums {
-    items: Vec<u32>,
+pub struct Items<T> {
+    items: Vec<T>,
 }
 
-impl Model for Nums {
-    ghost use Rattle.std.specs.Prelude.{ℕ, List};
+/// A list of numbers below 2^32.
+pub type Nums = Items<u32>;
 
-    ghost Value = { List ℕ };
+impl<T> Model for Items<T> {
+    ghost use Rattle.std.specs.Prelude.{List};
 
-    ghost view = { λ n. n.items.items };
+    ghost Value = { List T };
+
+    ghost view = { λ l. l.items.items };
 }
 
-impl Nums {
+impl<T: Drop> Items<T> {
     /// The empty list, which takes no memory.
-    pub fn new(alloc: Global) -> Nums
+    pub fn new(alloc: Global) -> Items<T>
         ensures { result ≡ [] }
     {
-        Nums {
+        Items {
             items: Vec::new(alloc),
         }
     }
 
-    /// Appends a number. An `Err` changes nothing.
-    pub fn push(&mut self, item: u32) -> Result<(), AllocError>
+    /// Appends an item. An `Err` changes nothing.
+    pub fn push(&mut self, item: T) -> Result<(), AllocError>
         ensures ok { OnOk result (self.new ≡ self.old ++ item ∷ []) }
         ensures err { OnErr result (self.new ≡ self.old) }
     {
@@ -36,33 +39,33 @@ impl Nums {
         Ok(())
     }
 
-    /// The number of numbers.
+    /// The number of items.
     pub fn len(&self) -> usize
         ensures { result ≡ length self.now }
     {
         self.items.len()
     }
 
-    /// The numbers, lent.
-    pub fn as_slice(&self) -> &[u32]
+    /// The items, lent.
+    pub fn as_slice(&self) -> &[T]
         ensures { result.now ≡ self.now }
     {
         self.items.as_slice()
     }
 
-    // The numbers, in the vector that held them.
-    pub(crate) fn into_vec(self) -> Vec<u32>
+    // The items, in the vector that held them.
+    pub(crate) fn into_vec(self) -> Vec<T>
         ensures { result.items ≡ self }
     {
         self.items
     }
 }
 
-impl From<Vec<u32>> for Nums {
-    ghost from_gives = { λ items numbers. numbers ≡ items.items };
+impl<T> From<Vec<T>> for Items<T> {
+    ghost from_gives = { λ items list. list ≡ items.items };
 
-    /// The numbers of this vector, which is not copied.
-    fn from(items: Vec<u32>) -> Nums {
-        Nums { items }
+    /// The items of this vector, which is not copied.
+    fn from(items: Vec<T>) -> Items<T> {
+        Items { items }
     }
 }

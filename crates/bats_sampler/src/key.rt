@@ -1,8 +1,10 @@
-ghost use Rattle.std.specs.Prelude.{◌≡◌, ◌+◌, ◌*◌, ◌/◌, ◌%◌, ◌≤◌, ◌<◌, ◌^◌, IfOk, OnOk};
+ghost use Rattle.std.specs.Prelude.{◌≡◌, ◌+◌, ◌*◌, ◌/◌, ◌%◌, ◌≤◌, ◌<◌, ◌^◌, IfOk, OnOk, map};
 ghost use Rattle.std.specs.Int.{div_ceil};
-ghost use Rattle.bats_model.specs.Key.{key_word, seeded_key, pick};
+ghost use Rattle.std.specs.List.{range_with_len};
+ghost use Rattle.bats_model.specs.Key.{key_word, key_byte, seeded_key, pick};
 ghost use Rattle.bats_sampler.specs.Words.{bytes_from};
 
+use bats_model::Bytes;
 use rand_chacha::ChaCha20Rng;
 use rand_core::SeedableRng;
 use rand_core::utils::NextWord;
@@ -45,6 +47,18 @@ impl KeyWords {
         }
     }
 
+    // The words of this key, from this place on.
+    fn at(key: [u8; 32], place: u32) -> KeyWords
+        ensures { result ≡ record {
+          key = key;
+          place = place;
+        } }
+    {
+        let mut stream = ChaCha20Rng::from_seed(key);
+        stream.set_word_pos(u128::from(place));
+        KeyWords { key, stream }
+    }
+
     /// The next word.
     pub fn next_word(&mut self) -> u32
         requires { self.old.place + 1 < 2 ^ 68 }
@@ -53,6 +67,13 @@ impl KeyWords {
     {
         self.stream.next_word()
     }
+}
+
+/// Word `place` of a key, after ChaCha20 (RFC 8439).
+pub fn key_word(key: &[u8; 32], place: u32) -> u32
+    ensures { result ≡ key_word key.now place }
+{
+    KeyWords::at(*key, place).next_word()
 }
 
 /// The key of a seed, a number, a byte for the kind of key, and a second number.
@@ -91,7 +112,7 @@ fn byte_of(word: u32, place: u32) -> u8
 
 /// The next `count` bytes of the words: four bytes a word, the lowest first. The rest of the last word is passed over.
 pub fn next_bytes(alloc: Global, words: &mut KeyWords, count: u32) -> Result<Vec<u8>, AllocError>
-    requires { (words.old.place < 2 ^ 32) × (count ≤ 4096) }
+    requires { (words.old.place < 2 ^ 32) × (count ≤ 8388608) }
     ensures bytes { IfOk result (λ bytes. bytes.items ≡ bytes_from words.old.key (4 * words.old.place) count) }
     ensures after { OnOk result (words.new ≡ record words.old { place = words.old.place + div_ceil count 4 }) }
 {
@@ -104,4 +125,13 @@ pub fn next_bytes(alloc: Global, words: &mut KeyWords, count: u32) -> Result<Vec
         bytes.push(byte_of(word, i % 4))?;
     }
     Ok(bytes)
+}
+
+/// The first `count` bytes, at most 8,388,608, of the words of a key: four bytes a word, the lowest first.
+pub fn key_bytes(alloc: Global, key: &[u8; 32], count: u64) -> Result<Bytes, AllocError>
+    requires { count ≤ 8388608 }
+    ensures { IfOk result (λ bytes. bytes ≡ map (λ i. key_byte key.now i) (range_with_len 0 count)) }
+{
+    let mut words = KeyWords::new(*key);
+    Ok(Bytes::from(next_bytes(alloc, &mut words, count as u32)?))
 }

@@ -1,5 +1,5 @@
-//! The sampler: the batch of each number, whose degree, contributors and generator are drawn from the words of the
-//! batch's key.
+//! The words of a key, and the sampler: the batch of each number, whose degree, contributors and generator are drawn from
+//! the words of the batch's key.
 #![tactic(auto)]
 
 mod contributors;
@@ -8,5 +8,6 @@ mod key;
 mod mix;
 mod sampler;
 
+pub use key::{key_bytes, key_word};
 pub use mix::mix_bytes;
 pub use sampler::batch;

@@ -2,7 +2,7 @@ ghost use Rattle.std.specs.Prelude.{◌≡◌, ◌≤◌, map, IfOk};
 ghost use Rattle.std.specs.List.{range_with_len};
 ghost use Rattle.bats_model.specs.Key.{relay_key, key_byte};
 
-use crate::key::{KeyWords, key_from, next_bytes};
+use crate::key::{key_bytes, key_from};
 use bats_model::Bytes;
 use std::alloc::{AllocError, Global};
 
@@ -19,6 +19,6 @@ pub fn mix_bytes(
     ensures { IfOk result (λ bytes. bytes
         ≡ map (λ i. key_byte (relay_key relay_seed.now batch output) i) (range_with_len 0 count)) }
 {
-    let mut words = KeyWords::new(key_from(*relay_seed, batch, 1, output));
-    Ok(Bytes::from(next_bytes(alloc, &mut words, count)?))
+    let key = key_from(*relay_seed, batch, 1, output);
+    Ok(key_bytes(alloc, &key, u64::from(count))?)
 }

@@ -4,6 +4,7 @@ use Rattle.std.proofs.lemmas.List.{length-drop, take_all}
 use lib.Lanes.{zip2, chunk}
 use Rattle.gf_core.specs.Field.{gf_add, gf_mul}
 use Rattle.gf_core.specs.Rows.{row_sum, scaled_row, add_scaled_row}
+use Rattle.gf_core.proofs.CombinationLemmas.{take-row_sum}
 use Rattle.gf_core.proofs.RowLemmas.{row_sum-nil, length-row_sum, length-scaled_row, row_sum_assoc}
 use Rattle.gf_rows.specs.Multiples.{sum_of_four}
 
@@ -80,13 +81,6 @@ chunk-sum_of_four i n ca a cb b cc c cd d eb ec ed =
 
 -- ---- the sum in two parts
 
-take-row_sum : (n : ℕ) (xs ys : List ℕ) → row_sum (take n xs) (take n ys) ≡ take n (row_sum xs ys)
-unfolding row_sum
-take-row_sum zero xs ys = refl
-take-row_sum (suc n) [] ys = refl
-take-row_sum (suc n) (x ∷ xs) [] = refl
-take-row_sum (suc n) (x ∷ xs) (y ∷ ys) = ap (λ zs. gf_add x y ∷ zs) (take-row_sum n xs ys)
-
 drop-row_sum : (n : ℕ) (xs ys : List ℕ) → row_sum (drop n xs) (drop n ys) ≡ drop n (row_sum xs ys)
 unfolding row_sum
 drop-row_sum zero xs ys = refl
@@ -123,7 +117,7 @@ part_of_sum part sums multiples ca a cb b cc c cd d =
 
 pub take-sum_of_four : (n ca : ℕ) (a : List ℕ) (cb : ℕ) (b : List ℕ) (cc : ℕ) (c : List ℕ) (cd : ℕ) (d : List ℕ)
     → sum_of_four ca (take n a) cb (take n b) cc (take n c) cd (take n d) ≡ take n (sum_of_four ca a cb b cc c cd d)
-take-sum_of_four n = part_of_sum (take n) (take-row_sum n) (take-scaled_row n)
+take-sum_of_four n = part_of_sum (take n) (λ xs ys. sym (take-row_sum n xs ys)) (take-scaled_row n)
 
 pub drop-sum_of_four : (n ca : ℕ) (a : List ℕ) (cb : ℕ) (b : List ℕ) (cc : ℕ) (c : List ℕ) (cd : ℕ) (d : List ℕ)
     → sum_of_four ca (drop n a) cb (drop n b) cc (drop n c) cd (drop n d) ≡ drop n (sum_of_four ca a cb b cc c cd d)

@@ -61,10 +61,10 @@ op_on_column-scaled_row c column (Scale row factor) p bytes q =
     (ap (set (scaled_row c column) row) (gf_mul_left_comm factor c (get_or column row 0) q p (byte_at column row bytes)) ∙
     sym (scaled_row-set c column row _))
 
-abbrev zeros : ℕ → List ℕ
+abbrev pub zeros : ℕ → List ℕ
 zeros n = replicate n 0
 
-entry_of_zeros : (n k : ℕ) → get_or (zeros n) k 0 ≡ 0
+pub entry_of_zeros : (n k : ℕ) → get_or (zeros n) k 0 ≡ 0
 entry_of_zeros zero k = refl
 entry_of_zeros (suc n) zero = refl
 entry_of_zeros (suc n) (suc k) = entry_of_zeros n k

@@ -21,7 +21,7 @@ use Rattle.gf_rows.specs.Operation.{IsRowOperation, HasByteFactor, FitsRows, op_
 use Rattle.gf_rows.specs.Plan.{IsPlan, plan_on_column, plan_on_rows}
 use Rattle.gf_rows.specs.Performed.{TakesFrom, Performed}
 use Rattle.gf_rows.specs.Equations.{AreValues, row_value, Solves, row_result}
-use Rattle.gf_rows.proofs.PlanLemmas.{op_on_column-lt, length-plan_on_column, plan_on_column-lt, plan_on_column-append, plan_on_column-row_sum, length-plan_on_rows}
+use Rattle.gf_rows.proofs.PlanLemmas.{zeros, entry_of_zeros, op_on_column-lt, length-plan_on_column, plan_on_column-lt, plan_on_column-append, plan_on_column-row_sum, length-plan_on_rows}
 use Rattle.gf_core.specs.Triangular.{AreRows}
 use Rattle.gf_core.proofs.LinearRows.{IsLinear-product}
 use Rattle.gf_rows.proofs.LinearLemmas.{AreRows-plan_on_rows, map-plan_on_rows}
@@ -96,14 +96,6 @@ plan-back sources (op ∷ ops) column takes is bytes h =
     subst (IsZeroAt sources) (unchanged_at_zero column op source) after
 
 -- ---- a plan can be undone
-
-abbrev zeros : ℕ → List ℕ
-zeros n = replicate n 0
-
-entry_of_zeros : (n k : ℕ) → get_or (zeros n) k 0 ≡ 0
-entry_of_zeros zero k = refl
-entry_of_zeros (suc n) zero = refl
-entry_of_zeros (suc n) (suc k) = entry_of_zeros n k
 
 -- the rows that a plan's operations take from
 takes_from_its_sources : (ops : List Op) → All (TakesFrom (map source_of ops)) ops

@@ -1,7 +1,8 @@
 use Rattle.std.proofs.Common.{ℕ, List, ◌++◌, sym, subst}
 use Rattle.std.proofs.lemmas.Result.{on_ok_weaker, on_err_weaker}
 use Rattle.bats_io.specs.Sink.{Appends, AppendsPrefix}
-use Rattle.bats_format.proofs.Written.{Appends-after, AppendsPrefix-longer, AppendsPrefix-after, on_err, packet_record-parts}
+use Rattle.bats_io.proofs.Appended.{Appends-after, AppendsPrefix-longer, AppendsPrefix-after}
+use Rattle.bats_format.proofs.Written.{on_err, packet_record-parts}
 use Rattle.bats_format.proofs.writing.write_packet.Goals as goal
 
 pub returns-in_err-write_bytes-clause-prefix : goal.returns-in_err-write_bytes-clause-prefix
