@@ -10,7 +10,7 @@ appended (Some written) piece = Some (written ++ piece)
 abbrev pub Appends : Option (List ℕ) → Option (List ℕ) → List ℕ → Type 0
 Appends old new piece = new ≡ appended old piece
 
--- a prefix of these bytes was appended
+-- a prefix of these bytes was appended, perhaps none or all of them
 pub record AppendsPrefix (old new : Option (List ℕ)) (bytes : List ℕ) : Type 0 where
   pub count : ℕ
   pub within : count ≤ length bytes

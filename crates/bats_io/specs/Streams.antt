@@ -12,17 +12,17 @@ pub record OutputState : Type 0 where
   pub flushed : Bool
   pub faults : ℕ
 
--- the bytes are what the input tells, where it tells its bytes
+-- the bytes are what the input tells; where it tells nothing, any bytes are
 abbrev pub IsTold : Option (List ℕ) → List ℕ → Type 0
 IsTold None bytes = Unit {0}
 IsTold (Some told) bytes = told ≡ bytes
 
--- these bytes were read
+-- these bytes were read, from the front of those that were left; an input that tells nothing goes on telling nothing
 abbrev pub IsRead : Option (List ℕ) → Option (List ℕ) → List ℕ → Type 0
 IsRead None new bytes = new ≡ None
 IsRead (Some left) new bytes = (rest : List ℕ) × (new ≡ Some rest) × (left ≡ bytes ++ rest)
 
--- no byte is left
+-- no byte is left; of an input that tells nothing this says nothing
 abbrev pub IsEnded : Option (List ℕ) → Type 0
 IsEnded None = Unit {0}
 IsEnded (Some bytes) = bytes ≡ []

@@ -21,9 +21,11 @@ pub record IsBatch (batch : BatchData) : Type 0 where
   pub degree : length batch.contributors ≤ 128
   pub entries : length batch.entries ≡ length batch.contributors * batch.columns
 
+-- the degree of a batch: the number of its contributors
 abbrev pub degree_of : BatchData → ℕ
 degree_of batch = length batch.contributors
 
+-- contributor k of a batch, a symbol by its number
 abbrev pub contributor_of : BatchData → ℕ → ℕ
 contributor_of batch k = slice_index batch.contributors k
 
@@ -36,7 +38,7 @@ unfoldable pub entries_by : ℕ → ℕ → (ℕ → ℕ → ℕ) → List ℕ
 entries_by rows columns entry =
     map (λ place. entry (place / columns) (place % columns)) (range_with_len 0 (rows * columns))
 
--- the identity's entry
+-- the identity's entry: 1 where row and column have the same number, else 0
 abbrev pub identity_entry : ℕ → ℕ → ℕ
 identity_entry k j = if k == j then 1 else 0
 
@@ -89,7 +91,7 @@ sampled_batch_of session number =
           (λ k j. key_byte key (4 * (1 + degree) + (k * session.m + j)));
     }
 
--- the batch of this number
+-- the batch of this number: the systematic one, where the session has one of this number, else the sampled one
 unfoldable pub batch_of : SessionData → ℕ → BatchData
 batch_of session number =
     if is_systematic_batch session number then systematic_batch_of session number else sampled_batch_of session number

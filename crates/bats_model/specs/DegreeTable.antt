@@ -1,10 +1,12 @@
 -- The two degree tables. A row is a degree and its weight; the weights of a table sum to 1,000.
 use Rattle.std.specs.Prelude.{ℕ, ◌+◌, ◌==◌, List, [], ◌∷◌, if◌then◌else◌, nat_lt}
 
+-- table 0, as rows of a degree and its weight, degrees rising
 abbrev pub table_0 : List (ℕ × ℕ)
 table_0 =
     (12, 100) ∷ (16, 250) ∷ (20, 200) ∷ (26, 150) ∷ (36, 120) ∷ (52, 90) ∷ (80, 60) ∷ (128, 30) ∷ []
 
+-- table 1
 abbrev pub table_1 : List (ℕ × ℕ)
 table_1 =
     (1, 20) ∷ (2, 480) ∷ (3, 170) ∷ (4, 90) ∷ (6, 80) ∷ (10, 70) ∷ (20, 50) ∷ (40, 40) ∷ []

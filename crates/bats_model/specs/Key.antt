@@ -3,7 +3,7 @@ use Rattle.std.specs.Prelude.{ℕ, ◌*◌, ◌/◌, ◌%◌, ◌^◌, List, ◌
 use Rattle.std.specs.Int.{w32, to_be_bytes}
 use Rattle.rand_chacha.specs.ChaCha.{word_at, key_of}
 
--- word i of a key: that of its stream 0, at place i, after ten double rounds
+-- word i of a key of 32 bytes: the i-th 32-bit word of the ChaCha20 generator with that key, on stream 0 from place 0
 unfoldable pub key_word : List ℕ → ℕ → ℕ
 key_word key i = word_at 10 (key_of key) 0 i
 
@@ -11,7 +11,7 @@ key_word key i = word_at 10 (key_of key) 0 i
 unfoldable pub key_byte : List ℕ → ℕ → ℕ
 key_byte key i = key_word key (i / 4) / 256 ^ (i % 4) % 256
 
--- the number below n that a word picks
+-- the number below n that a word picks: the word times n, divided by 2^32 and rounded down. The small bias is accepted.
 abbrev pub pick : ℕ → ℕ → ℕ
 pick word n = word * n / 2 ^ 32
 
@@ -20,10 +20,10 @@ unfoldable pub seeded_key : List ℕ → ℕ → ℕ → ℕ → List ℕ
 seeded_key seed first kind second =
     seed ++ to_be_bytes w32 first ++ kind ∷ to_be_bytes w32 second ++ replicate 7 0
 
--- the key of a batch
+-- the key of a batch: kind 0, and second number 0
 unfoldable pub batch_key : List ℕ → ℕ → List ℕ
 batch_key seed number = seeded_key seed number 0 0
 
--- the key of an output of a relay, for a batch
+-- the key of an output of a relay, for a batch: kind 1, and the output's number
 unfoldable pub relay_key : List ℕ → ℕ → ℕ → List ℕ
 relay_key seed batch output = seeded_key seed batch 1 output

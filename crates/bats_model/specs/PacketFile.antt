@@ -30,7 +30,8 @@ abbrev pub IsItemAt : SessionData → ℕ → Item → Type 0
 IsItemAt session offset (items.Header at) = at ≡ offset
 IsItemAt session offset (items.Packet at packet) = (at ≡ offset) × HasShape session packet
 
--- the items are ones of the session, one record after another from this offset on
+-- the items are ones of the session, one record after another from this offset on: each offset is the sum of the lengths of
+-- the records before it
 unfoldable pub AreItemsFrom : SessionData → ℕ → List Item → Type 0
 AreItemsFrom session offset [] = Unit {0}
 AreItemsFrom session offset (item ∷ rest) =

@@ -9,7 +9,7 @@ use Rattle.bats_model.specs.declared.packet.Packet.{Packet}
 
 -- ---- sets of symbols
 
--- a set of symbols: whether it has each of them, by number. Whether it has symbol s
+-- whether a set has symbol s. A set of symbols is a list with true or false for each of them, by number.
 abbrev pub is_in : List Bool → ℕ → Bool
 is_in set s = slice_index_or set s false
 

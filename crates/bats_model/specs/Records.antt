@@ -19,7 +19,7 @@ packet_tag = 80
 abbrev pub mode_of : SessionData → ℕ
 mode_of session = (if session.systematic then 128 else 0) + session.table
 
--- the header record: 32 bytes
+-- the header record: 32 bytes, which are `BTS`, version, M, mode, T, the file's length, and the seed
 unfoldable pub header_record : SessionData → List ℕ
 header_record session =
     codes "BTS" ++ version ∷ session.m ∷ mode_of session ∷ [] ++ to_be_bytes w16 session.t

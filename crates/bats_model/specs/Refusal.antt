@@ -17,14 +17,15 @@ use Rattle.bats_model.specs.declared.read_end.ReadEnd.TheVariants as ends
 abbrev pub header_size : ℕ
 header_size = 32
 
--- the two numbers of more than one byte in a header's bytes
+-- T in a header's bytes
 abbrev pub symbol_size_in : List ℕ → ℕ
 symbol_size_in bytes = from_be_bytes w16 (take 2 (drop 6 bytes))
 
+-- the file's length in a header's bytes
 abbrev pub length_in : List ℕ → ℕ
 length_in bytes = from_be_bytes w64 (take 8 (drop 8 bytes))
 
--- the first field of a header's 32 bytes that breaks its rule, if one does
+-- the first field of a header's 32 bytes that breaks its rule, if one does: letters, version, M, mode, T, length
 unfoldable pub first_broken : List ℕ → Option HeaderField
 first_broken bytes =
     if not (bytes_eq (take 3 bytes) (codes "BTS")) then Some fields.Magic
@@ -36,7 +37,8 @@ first_broken bytes =
     else if not (nat_le (symbol_count (length_in bytes) (symbol_size_in bytes)) max_symbols) then Some fields.Length
     else None
 
--- why an input is refused that has no packet file at its front
+-- why an input is refused that has no packet file at its front: no header where it is empty or its first byte is no
+-- header's, else a cut header where it has fewer than 32 bytes, else the first broken field
 unfoldable pub header_refusal : List ℕ → Option ReadEnd
 header_refusal [] = Some ends.NoHeader
 header_refusal (tag ∷ bytes) =
@@ -46,7 +48,9 @@ header_refusal (tag ∷ bytes) =
 
 -- ---- the records after it
 
--- why what follows the longest packet file is refused, from its offset and how many records are before it
+-- Why what follows the longest packet file is refused, from its offset and how many records are before it. Nothing isn't
+-- refused. Else the first cause is told: too many records; a byte that begins no record; a whole header, of another
+-- session; a record that is cut.
 unfoldable pub first_refusal : ℕ → ℕ → List ℕ → Option ReadEnd
 first_refusal offset records [] = None
 first_refusal offset records (tag ∷ bytes) =
@@ -57,23 +61,23 @@ first_refusal offset records (tag ∷ bytes) =
 
 -- ---- the whole input
 
--- the input begins with bytes that stand for the session and the items
+-- the input begins with a packet file of the session and the items
 pub record HasFront (input : List ℕ) (session : SessionData) (list : List Item) (front rest : List ℕ) : Type 0 where
   pub file : IsPacketFile session list front
   pub split : input ≡ front ++ rest
 
--- there is no longer front that stands for any
+-- the input begins so, and with no longer bytes that stand for any session and items
 pub record HasLongestFront (input : List ℕ) (session : SessionData) (list : List Item) (front rest : List ℕ) : Type 0 where
   pub is_front : HasFront input session list front rest
   pub longest : (other : SessionData) (others : List Item) (begin after : List ℕ)
       → HasFront input other others begin after → length begin ≤ length front
 
--- the first record is refused
+-- no packet file is at the front, and the first record is refused so
 pub record RefusesHeader (input : List ℕ) (end : ReadEnd) : Type 0 where
   pub none : (session : SessionData) (list : List Item) (front rest : List ℕ) → ¬ HasFront input session list front rest
   pub refusal : header_refusal input ≡ Some end
 
--- the record after these items is refused
+-- these are the items of the longest packet file at the front, and the record after them is refused so
 pub record RefusesRecord (input : List ℕ) (session : SessionData) (list : List Item) (end : ReadEnd) : Type 0 where
   pub front : List ℕ
   pub rest : List ℕ

@@ -24,7 +24,8 @@ pub record IsFirstOpen (session : SessionData) (packets : List Packet) (s : ℕ)
   pub same_below : (one other : List ℕ) → AgreesWithAll session packets one → AgreesWithAll session packets other
       → (k : ℕ) → k < s → IsSameSymbol session one other k
 
--- the answer is right for these packets
+-- the answer is right for these packets: the only file that agrees, or that none does, or two that do and the first symbol
+-- in which files that agree differ
 abbrev pub IsRightAnswer : SessionData → List Packet → Answer → Type 0
 IsRightAnswer session packets (File file) = IsOnlyFile session packets file
 IsRightAnswer session packets Inconsistent = NoFileAgrees session packets

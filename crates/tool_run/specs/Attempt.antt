@@ -51,6 +51,7 @@ pub record LacksMemory (promise : Promise) (input : List ℕ) (before after : En
   pub output : WritesPart promise input before.output after.output
   pub output_fault : after.output.faults ≡ before.output.faults
 
+-- what it has done, by what it answers
 abbrev pub AttemptsAs : Promise → List ℕ → Ends → Ends → Counters → Counters → Result Finish Stop → Type 0
 AttemptsAs promise input before after given now (Ok finish) = Completes promise input before after given now finish
 AttemptsAs promise input before after given now (Err stops.ReadFault) = CannotRead promise before after

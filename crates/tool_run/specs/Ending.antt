@@ -25,7 +25,7 @@ pub data Reach : Type 0 where
   in_part : Reach
   to_end : Reach
 
--- what that says of an input before and after the run; a part may be none of it, or all
+-- what that says of an input before and after the run: it is as it was, or no more is said here, or nothing is left
 abbrev pub HasRead : Reach → Option (List ℕ) → Option (List ℕ) → Type 0
 HasRead untouched before after = after ≡ before
 HasRead in_part before after = Unit {0}

@@ -3,16 +3,15 @@ use Rattle.std.specs.Prelude.{ℕ, ◌≡◌, ◌⊎◌, List, [], ◌++◌, Opt
 use Rattle.bats_io.specs.Streams.{ReadsAtMost}
 use Rattle.tool_run.specs.Ending.{Ending}
 
+-- What a command promises of an input. `ends` are the endings that are right for it, where memory is found and no read,
+-- write or flush fails. `reads` is how far it is read, from what was left before to what is left after. `partly` is what a
+-- run may have written that a failed write or want of memory cut short, and `partly_read` what a run has written whose
+-- reading failed.
 pub record Promise : Type 1 where
   pub ends : List ℕ → Ending → Type 0
   pub reads : Option (List ℕ) → Option (List ℕ) → Type 0
   pub partly : List ℕ → List ℕ → Type 0
   pub partly_read : Option (List ℕ) → Option (List ℕ) → List ℕ → Type 0
-
--- In a promise, of an input: `ends` are the endings that are right for it, where memory is found and no read, write or
--- flush fails. `reads` is how far it is read, from what was left before to what is left after. `partly` is what a run may
--- have written that a failed write or want of memory cut short, and `partly_read` what a run has written whose reading
--- failed.
 
 -- the bytes are the front of others
 abbrev pub IsFrontOf : List ℕ → List ℕ → Type 0

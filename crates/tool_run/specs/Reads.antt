@@ -45,6 +45,7 @@ pub record TakesNothing (before after : InputState) : Type 0 where
   pub fault : Rose before.faults after.faults
   pub nothing : after.left ≡ before.left
 
+-- one read, by what it answers
 abbrev pub ReadsPiece : InputState → InputState → List ℕ → List ℕ → ℕ → Result ℕ Stop → Type 0
 ReadsPiece before after file file' room (Ok count) = ReadsSome before after file file' room count
 ReadsPiece before after file file' room (Err stops.ReadFault) = TakesNothing before after

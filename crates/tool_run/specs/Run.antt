@@ -62,7 +62,7 @@ pub record Finishes (promise : Promise) (input : List ℕ) (before after : RunSt
   pub notes : Appends before.notes.written after.notes.written ending.line
   pub flushed : AllFlushed after
 
--- a read failed
+-- a read failed: what was written before is what the promise allows then, the notes say so, and both are flushed
 pub record FailsToRead (promise : Promise) (before after : RunState) : Type 0 where
   pub fault : Rose before.input.faults after.input.faults
   pub output_fault : after.output.faults ≡ before.output.faults
@@ -71,7 +71,7 @@ pub record FailsToRead (promise : Promise) (before after : RunState) : Type 0 wh
   pub notes : Appends before.notes.written after.notes.written (line_of stops.ReadFault)
   pub flushed : AllFlushed after
 
--- memory ran out
+-- memory ran out: no call failed, a part of the output is written, the notes say so, and both are flushed
 pub record RunsOutOfMemory (promise : Promise) (input : List ℕ) (before after : RunState) : Type 0 where
   pub no_fault : NoFault before after
   pub output : WritesPart promise input before.output after.output
@@ -112,6 +112,7 @@ pub record BeginsMemory (promise : Promise) (input : List ℕ) (before after : R
   pub input_fault : after.input.faults ≡ before.input.faults
   pub output : WritesPart promise input before.output after.output
 
+-- one of these lines was begun
 abbrev pub Begins : Promise → List ℕ → RunState → RunState → List ℕ → Type 0
 Begins promise input before after line =
     BeginsEnding promise input before after line
@@ -126,7 +127,8 @@ pub record FailsToWriteNotes (promise : Promise) (input : List ℕ) (before afte
   pub begins : Begins promise input before after line
   pub notes : AppendsPrefix before.notes.written after.notes.written line
 
--- a run that keeps this promise on this input may end with this status and leave the streams so
+-- a run that keeps this promise on this input may end with this status and leave the streams so: by the status, a read, a
+-- write or memory failed, or it finished
 abbrev pub IsOutcome : Promise → List ℕ → RunState → RunState → Status → Type 0
 IsOutcome promise input before after statuses.ReadFault = FailsToRead promise before after
 IsOutcome promise input before after statuses.WriteFault =

@@ -3,6 +3,7 @@ use Rattle.std.specs.Prelude.{ℕ}
 use Rattle.tool_run.specs.declared.status.Status.{Status}
 use Rattle.tool_run.specs.declared.status.Status.TheVariants as statuses
 
+-- the exit status of each, 0 to 9
 abbrev pub code_of : Status → ℕ
 code_of statuses.Done = 0
 code_of statuses.NeedMore = 1
