@@ -33,6 +33,7 @@ row_count batches = sum_by (λ batch. length batch.kept) batches
 unfoldable pub kept_packets : List HeldBatch → List Packet
 kept_packets batches = flat_map (λ batch. batch.kept) batches
 
+-- what is read past the end of held batches
 abbrev pub no_batch : HeldBatch
 no_batch = record { number = 0; kept = [] }
 

@@ -4,7 +4,7 @@ use Rattle.std.specs.Option.{option_and_then, option_map, ok_or}
 use Rattle.std.specs.Str.{bytes_eq}
 use Rattle.toml.specs.Data.{Data, as_bool, Members, no_members, member, get_member}
 use Rattle.toml.specs.Parse.{parse_document}
-use Rattle.bats_model.specs.Session.{SessionData, symbol_count, max_symbols}
+use Rattle.bats_model.specs.Session.{SessionData, session_with, symbol_count, max_symbols}
 use Rattle.bats_script.specs.ScriptValues.{number_between, seed_of, hex_bytes, seeds_of, links_of, events_of}
 use Rattle.bats_world.specs.declared.event.Event.{Event}
 use Rattle.bats_script.specs.declared.parameters.Parameters.{Parameters}
@@ -49,7 +49,7 @@ events_at (Some value) = events_of value
 unfoldable pub known : Members → Result ⊤ ScriptEnd
 known members = if are_known members then Ok tt else Err (ends.Key keys.Unknown)
 
--- the session's parameters but the file's length
+-- the session's parameters but the file's length, in the order in which their keys are judged
 unfoldable pub parameters_of : Members → Result Parameters ScriptEnd
 parameters_of members = do
   m ← needs keys.M (value_at (number_between 1 32) (codes "m") members)
@@ -63,32 +63,21 @@ parameters_of members = do
 unfoldable pub session_of : Parameters → ℕ → Option SessionData
 session_of p file_length =
     if nat_le (symbol_count file_length p.t) max_symbols
-    then Some (record {
-      m = p.m;
-      t = p.t;
-      file_length = file_length;
-      table = p.table;
-      systematic = p.systematic;
-      seed = p.seed;
-    })
+    then Some (session_with p.m p.t file_length p.table p.systematic p.seed)
     else None
 
 -- the script of a session and what else its keys give
 abbrev pub script_from : List ℕ → List (List ℕ) → List (ℕ × ℕ) → List Event → SessionData → Script
-script_from file seeds links events session = record {
-  session = session;
-  file = file;
-  relay_seeds = seeds;
-  links = links;
-  events = events;
-}
+script_from file seeds links events session =
+    record { session = session; file = file; relay_seeds = seeds; links = links; events = events }
 
 -- the whole script, unless its file has too many symbols
 unfoldable pub whole : Parameters → List ℕ → List (List ℕ) → List (ℕ × ℕ) → List Event → Result Script ScriptEnd
 whole parameters file seeds links events =
     ok_or (option_map (script_from file seeds links events) (session_of parameters (length file))) ends.TooLong
 
--- what a table is read as
+-- what a table is read as. Keys are judged in this order: those that no script has, the parameters, file, relays, links and
+-- events; and last whether the file has too many symbols.
 unfoldable pub script_of : Members → Result Script ScriptEnd
 script_of members = do
   only ← known members

@@ -57,6 +57,7 @@ two_in high low' high' (item x (item y no_items)) =
     option_zip (number_between 0 high x) (number_between low' high' y)
 two_in high low' high' _ = None
 
+-- an array of two such integers
 unfoldable pub two_numbers : ℕ → ℕ → ℕ → Data → Option (ℕ × ℕ)
 two_numbers high low' high' (array items) = two_in high low' high' items
 two_numbers high low' high' _ = None
@@ -92,6 +93,7 @@ event_in members =
     (option_map (λ n. Give n.0 n.1) (numbers_at (codes "give") members)))
     else None
 
+-- the event of a value, which has to be a table
 unfoldable pub event_of : Data → Option Event
 event_of (table inner) = event_in inner
 event_of _ = None

@@ -15,10 +15,11 @@ use Rattle.bats_world.specs.declared.event.WorldEnd.{WorldEnd}
 use Rattle.bats_world.specs.declared.event.WorldEnd.TheVariants as causes
 use Rattle.bats_world.specs.declared.made.Made.{Made}
 
--- relays, and packets of the pool, at most
+-- relays, at most
 abbrev pub max_relays : ℕ
 max_relays = 16
 
+-- packets of the pool, at most
 abbrev pub max_pool : ℕ
 max_pool = 65536
 
@@ -70,6 +71,7 @@ received_by node given = map (λ one. one.packet) (filter (λ one. one.node == n
 abbrev pub made_count : ℕ → ℕ → List Made → ℕ
 made_count node batch pool = length (filter (λ made. made.maker == node && made.packet.batch == batch) pool)
 
+-- what is read past the end of a pool
 abbrev pub no_made : Made
 no_made = record { maker = 0; packet = record { batch = 0; coefs = []; payload = [] } }
 
@@ -99,27 +101,14 @@ is_full state node packet = is_new (received_by node state.given) packet
 
 -- the node has made the packet
 abbrev pub with_made : NetworkState → ℕ → Packet → NetworkState
-with_made state node packet = record {
-  session = state.session;
-  file = state.file;
-  seeds = state.seeds;
-  links = state.links;
-  pool = state.pool ++ record { maker = node; packet = packet } ∷ [];
-  given = state.given;
-}
+with_made state node packet = record state { pool = state.pool ++ record { maker = node; packet = packet } ∷ [] }
 
 -- the node was given the packet
 abbrev pub with_given : NetworkState → ℕ → Packet → NetworkState
-with_given state node packet = record {
-  session = state.session;
-  file = state.file;
-  seeds = state.seeds;
-  links = state.links;
-  pool = state.pool;
-  given = state.given ++ record { node = node; packet = packet } ∷ [];
-}
+with_given state node packet = record state { given = state.given ++ record { node = node; packet = packet } ∷ [] }
 
--- the state after an event, or the first cause why it doesn't take place
+-- The state after an event, or the first cause why it doesn't take place. What is sent or mixed comes last into the pool. What
+-- is given stays in it, so that it may be given again.
 unfoldable pub after_event : NetworkState → Event → Result NetworkState WorldEnd
 after_event state (Send batch column) =
     if not (nat_lt column state.session.m) then Err causes.ColumnTooLarge else
