@@ -1,5 +1,6 @@
-//! The tests of the libraries, a file a library, in the order of the layers.
+//! The tests of the libraries, a file a library.
 mod bases;
+mod crossing;
 mod encoding;
 mod field;
 mod holding;

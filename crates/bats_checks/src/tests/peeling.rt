@@ -40,10 +40,8 @@ fn offer_to<C: Ledger, L: Ledger>(
     if packet.payload.len() != usize::from(session.t()) {
         return Err(Fail::new("a payload of another session"));
     }
-    match held.offer(&packet, coef_steps, steps) {
-        Ok(_) => Ok(()),
-        Err(_) => Err(Fail::new("a packet was refused")),
-    }
+    held.offer(&packet, coef_steps, steps)?;
+    Ok(())
 }
 
 // What a session's packets of batch 0 with these coefficients are peeled to. Their payloads are all this one.
