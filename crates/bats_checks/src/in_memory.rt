@@ -1,6 +1,6 @@
 //! An example for users of the libraries: a file is encoded, mixed by a relay and decoded, in memory, with no program around
-//! it. Copy it and put a network between the three. A source needs bats_sampler and bats_encoder, a relay bats_relay, and
-//! a receiver bats_decode.
+//! it. Copy it and put a network between the three. A source needs bats_sampler and bats_encoder, a relay bats_relay, a
+//! receiver bats_decode, each of them bats_model, and who offers packets bats_batch and gf_rows.
 //!
 //! Each batch is a few symbols of the file, mixed into as many packets as the session says. The relay keeps the packets
 //! that come, and sends sums of those of one batch. Since sums of packets that tell the truth tell the truth, whatever was
@@ -61,8 +61,8 @@ impl From<OtherLength> for SendEnd {
 }
 
 /// Sends a file over a relay, and tells what a receiver has of it then: the file, or that it needs more packets. Of each of
-/// the first `batches` batches the source sends all packets, and the relay as many sums of them. The counters count what is
-/// done with rows of coefficients and with rows of payloads.
+/// the first `batches` batches the source sends all packets, and the relay as many sums of them. The counters count the row
+/// operations of offering and solving, on coefficients and on payloads; encoding and mixing aren't counted.
 pub fn send_in_memory<R: Threads + Sync, C: Ledger, L: Ledger>(
     rt: &R,
     alloc: Global,
