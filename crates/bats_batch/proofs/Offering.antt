@@ -1,8 +1,10 @@
 -- An offered packet, from its reduced row to what becomes of it and to the basis after it.
-use Rattle.std.proofs.Common.{ℕ, ◌≡◌, ◌≢◌, ◌<◌, ◌≤◌, ◌+◌, ◌∙◌, List, [], ◌∷◌, ◌++◌, length, get_or, take, drop, replicate, sym, ap, subst, arith}
+use Rattle.std.proofs.Common.{ℕ, ◌≡◌, ◌≢◌, ◌<◌, ◌≤◌, ◌+◌, ◌∙◌, List, [], ◌∷◌, ◌++◌, length, get_or, take, drop, replicate, min, sym, ap, subst, arith}
 use Rattle.std.specs.Prelude.{All}
 use Rattle.std.proofs.lemmas.List.{length-map, map_push, length-take-le, get_or-take}
 use Rattle.gf_core.specs.Combinations.{combination}
+use Rattle.gf_rows.specs.Spends.{Spends}
+use Rattle.gf_rows.proofs.SpendsLemmas.{Spends-weaken}
 use Rattle.bats_model.specs.declared.packet.Packet.{Packet}
 use Rattle.bats_model.specs.Kept.{IsCombination, Follows, Contradicts, packet_row}
 use Rattle.bats_model.specs.Relay.{payloads_of}
@@ -34,23 +36,33 @@ AreEntries-count m t entries basis =
     subst (λ n. n ≤ m) (length-map entries (λ e. e.row.items))
     (AreReduced-count m m (marked_from m 0 (offered_packets entries)) (pivots_of entries) (rows_of entries) basis.reduced)
 
--- a counter that rose by at most one step an entry
-pub counted : (m t : ℕ) (entries lent : List Entry) (seen : BasisData) (old new : ℕ) → AreEntries m t entries → basis_of m t entries ≡ seen → lent ≡ entries
-    → new ≤ old + length lent → new ≤ old + seen.m
-counted m t entries lent seen old new basis view same h =
-    let few = AreEntries-count m t entries basis in
-    let size : m ≡ seen.m = ap (λ (d : BasisData). d.m) view in
-    let long : length lent ≡ length entries = ap (λ (es : List Entry). length es) same in
-    omega (arith, few, size, long, h)
-
--- and so by at most one step a kept packet
-pub counted_of_rank : (m t : ℕ) (entries lent : List Entry) (seen : BasisData) (old new : ℕ) → basis_of m t entries ≡ seen → lent ≡ entries
-    → new ≤ old + length lent → new ≤ old + length seen.kept
-counted_of_rank m t entries lent seen old new view same h =
+-- a counter that rose by at most one step an entry, or by so many steps more where there is room for them
+pub counted : (m t : ℕ) (entries lent : List Entry) (seen : BasisData) (more old new : ℕ) → AreEntries m t entries
+    → basis_of m t entries ≡ seen → lent ≡ entries → length lent + more ≤ seen.m
+    → old ≤ new → new ≤ old + length lent + more → Spends old new (min seen.m (length seen.kept + more))
+counted m t entries lent seen more old new basis view same room rises h =
     let kept : length (offered_packets entries) ≡ length seen.kept = ap (λ (d : BasisData). length d.kept) view in
     let packets : length (offered_packets entries) ≡ length entries = length-map entries (λ e. e.packet) in
     let long : length lent ≡ length entries = ap (λ (es : List Entry). length es) same in
-    omega (arith, kept, packets, long, h)
+    record { rises = rises; within = omega (arith, room, kept, packets, long, h) }
+
+pub counted-judged : (m t : ℕ) (entries lent : List Entry) (seen : BasisData) (old new : ℕ) → AreEntries m t entries
+    → basis_of m t entries ≡ seen → lent ≡ entries
+    → old ≤ new → new ≤ old + length lent → Spends old new (min seen.m (length seen.kept))
+counted-judged m t entries lent seen old new basis view same rises h =
+    let few = AreEntries-count m t entries basis in
+    let size : m ≡ seen.m = ap (λ (d : BasisData). d.m) view in
+    let long : length lent ≡ length entries = ap (λ (es : List Entry). length es) same in
+    let none : Spends old new (min seen.m (length seen.kept + 0)) =
+    counted m t entries lent seen 0 old new basis view same (omega (arith, few, size, long)) rises (omega (arith, h)) in
+    Spends-weaken (min seen.m (length seen.kept)) none (omega arith)
+
+pub counted-offered : (m t : ℕ) (entries lent : List Entry) (seen : BasisData) (old new : ℕ) → AreEntries m t entries
+    → basis_of m t entries ≡ seen → lent ≡ entries
+    → old ≤ new → new ≤ old + length lent → Spends old new (min seen.m (length seen.kept + 1))
+counted-offered m t entries lent seen old new basis view same rises h =
+    Spends-weaken (min seen.m (length seen.kept + 1)) (counted-judged m t entries lent seen old new basis view same rises h)
+    (omega arith)
 
 -- ---- what is left of a packet
 

@@ -1,9 +1,10 @@
 -- What becomes of the slots when a packet is offered to one of them or to a new one, and which packets they stand for then.
-use Rattle.std.proofs.Common.{ℕ, ◌≡◌, ◌≢◌, ◌<◌, ◌≤◌, ◌+◌, ◌∙◌, eqb, if◌then◌else◌, sym, ap, refl, subst, List, All, [], ◌∷◌, ◌++◌, length, map, get_or, set, take, drop, arith, inl, inr, Result, Ok, Err, IfOk, IfErr}
+use Rattle.std.proofs.Common.{ℕ, ◌≡◌, ◌≢◌, ◌<◌, ◌≤◌, ◌+◌, ◌∙◌, eqb, if◌then◌else◌, sym, ap, refl, subst, List, All, [], ◌∷◌, ◌++◌, length, map, get_or, set, take, drop, min, arith, inl, inr, Bool, Result, Ok, Err, IfOk, IfErr, OnErr}
 use Rattle.std.specs.List.{insert}
-use Rattle.std.specs.Prelude.{IsErrAnd}
+use Rattle.std.specs.Prelude.{IsErrAnd, IsTrue, IsFalse, nat_lt}
 use Rattle.std.proofs.lemmas.Bool.{cases_eq, eq-eqb, ne_eqb}
-use Rattle.std.proofs.lemmas.List.{length-map, map-append, map-set, take-map, drop-map, get_or-map, length_push}
+use Rattle.std.proofs.lemmas.Bool.Decides.{nat_tests}
+use Rattle.std.proofs.lemmas.List.{length-map, map-append, map-set, set-get_or, take-map, drop-map, get_or-map, length_push}
 use Rattle.std.proofs.lemmas.List.Elements.{All-nil, All-cons, All-append, All-take, All-drop, All-set, All-push, All-map, All-weaker}
 use Rattle.std.proofs.lemmas.List.Sums.{sum_by-set, sum_by-insert}
 use Rattle.bats_model.specs.Session.{SessionData}
@@ -14,7 +15,8 @@ use Rattle.bats_model.specs.declared.taken.Taken.{Taken}
 use Rattle.bats_model.specs.declared.taken.Taken.TheVariants.{Kept, Dependent, Contradiction}
 use Rattle.bats_batch.specs.Basis.{BasisData, IsTaken, kept_with}
 use Rattle.bats_batch.specs.Held.{HeldBatch, HeldData, kept_at, row_count, no_batch, batch_at, basis_with, HaveRisingNumbers, max_kept, StandsFor}
-use Rattle.bats_batch.specs.steps.Slots.{batch_in, batches_in, AreOf, IsSlot, AreSlots, AreWithin, StandsAt, BelongsAt, gain_of, Takes}
+use Rattle.bats_batch.specs.steps.Slots.{batch_in, batches_in, AreOf, IsSlot, AreSlots, AreWithin, StandsAt, BelongsAt, gain_of, Takes, OffersTo, slots_cost}
+use Rattle.bats_batch.specs.Offers.{Offers}
 use Rattle.bats_batch.specs.declared.held.HeldEnd.{HeldEnd}
 use Rattle.bats_batch.specs.declared.held.HeldEnd.TheVariants.{Full}
 use Rattle.bats_batch.specs.declared.slot.Slot.{Slot}
@@ -34,16 +36,23 @@ if_same number kept other = rw (eq-eqb number number refl) refl
 if_other : (number q : ℕ) (kept other : List Packet) → q ≢ number → (if eqb number q then kept else other) ≡ other
 if_other number q kept other differ = rw (ne_eqb number q (λ e. differ (sym e))) refl
 
--- ---- what is said where a call is `Full`
+-- ---- the error that a call ends with
 
-pub Full-same : {T : Type 0} (r : Result T HeldEnd) (P Q : Type 0) → (P → Q) → IfErr r (λ e. e ≡ Full → P) → IfErr r (λ e. e ≡ Full → Q)
-Full-same (Ok x) P Q follows full = tt
-Full-same (Err e) P Q follows full = λ same. follows (full same)
+pub is-Err : {T : Type 0} (r : Result T HeldEnd) (e : HeldEnd) → IsErrAnd r (λ y. y ≡ e) → r ≡ Err e
+is-Err (Ok x) e exit = absurd exit
+is-Err (Err y) e exit = ap (λ (end : HeldEnd). Err end) exit
 
-pub Full-exit : {T : Type 0} (r : Result T HeldEnd) (e : HeldEnd) (P : Type 0) → IsErrAnd r (λ y. y ≡ e) → (e ≡ Full → P)
-    → IfErr r (λ y. y ≡ Full → P)
-Full-exit (Ok x) e P exit full = tt
-Full-exit (Err y) e P exit full = λ same. full (sym exit ∙ same)
+pub OffersTo-exit : (session : SessionData) (slots : List Slot) (has_room : Bool) (packet : Packet) (r : Result Taken HeldEnd)
+    (e : HeldEnd) → IsErrAnd r (λ y. y ≡ e)
+    → (e ≡ Full → (IsFalse has_room × IsTaken (kept_at (batches_in slots) packet.batch) packet Kept))
+    → OffersTo session slots slots has_room packet r
+OffersTo-exit session slots has_room packet (Ok x) e exit full = absurd exit
+OffersTo-exit session slots has_room packet (Err y) e exit full = record {
+  takes = tt;
+  room = tt;
+  full = λ same. full (sym exit ∙ same);
+  same = refl;
+}
 
 -- ---- the packet's batch is held
 
@@ -69,6 +78,9 @@ module _ (session : SessionData) (slots : List Slot) (place : ℕ) (slot : Slot)
 
   pub kept_at-slot : kept_at batches packet.batch ≡ old.basis.kept
   kept_at-slot = kept_at-stands batches are.rising packet.batch place stands ∙ ap (λ (b : HeldBatch). b.kept) at_place
+
+  pub slot_cost : min old.basis.m (length old.basis.kept + 1) ≤ slots_cost session slots packet
+  slot_cost = omega (arith, (are.each place slot within).m, ap (λ (ps : List Packet). length ps) kept_at-slot)
 
   batches_after : batches_in (set slots place new) ≡ set batches place (batch_in new)
   batches_after = map-set batch_in slots place new
@@ -116,12 +128,34 @@ module _ (session : SessionData) (slots : List Slot) (place : ℕ) (slot : Slot)
           );
     }
 
+  same_slots : basis ≡ old.basis → set slots place new ≡ slots
+  same_slots same =
+      ap (λ (b : BasisData). set slots place (record { number = old.number; basis = b })) same
+      ∙ set-get_or slots place slot
+
   -- whatever the offer to its basis gives
-  pub Takes-offered : {E : Type 0} (r : Result Taken E) → basis.m ≡ old.basis.m → basis.t ≡ old.basis.t
+  pub OffersTo-set : (has_room : Bool) (r : Result Taken HeldEnd) → basis.m ≡ old.basis.m → basis.t ≡ old.basis.t
       → IfOk r (IsTaken old.basis.kept packet)
-      → IfOk r (λ taken. basis.kept ≡ kept_with old.basis.kept packet taken) → IfOk r (Takes session slots (set slots place new) packet)
-  Takes-offered (Ok taken) m t is kept = Takes-set taken m t is kept
-  Takes-offered (Err e) m t is kept = tt
+      → IfOk r (λ taken. basis.kept ≡ kept_with old.basis.kept packet taken)
+      → IfOk r (λ taken. taken ≡ Kept → IsTrue has_room)
+      → IfErr r (λ e. e ≡ Full → (IsFalse has_room × IsTaken old.basis.kept packet Kept))
+      → OnErr r (basis ≡ old.basis)
+      → OffersTo session slots (set slots place new) has_room packet r
+  OffersTo-set has_room (Ok taken) m t is kept room full same = record {
+    takes = Takes-set taken m t is kept;
+    room = room;
+    full = tt;
+    same = tt;
+  }
+  OffersTo-set has_room (Err e) m t is kept room full same = record {
+    takes = tt;
+    room = tt;
+    full = λ is_full. (
+      (full is_full).0,
+      subst (λ (ps : List Packet). IsTaken ps packet Kept) (sym kept_at-slot) (full is_full).1,
+    );
+    same = same_slots same;
+  }
 
 -- ---- the packet's batch isn't held
 
@@ -257,6 +291,33 @@ AreWithin-taken session old new rows packet taken within takes room = record {
   are = takes.slots;
   count = omega (arith, within.count, takes.gain);
   limit = room-after rows taken within.limit room;
+}
+
+-- what an offer to the slots does to what is held
+pub Offers-of : (session : SessionData) (old new : List Slot) (rows : ℕ) (packet : Packet)
+    (r : Result Taken HeldEnd) → AreWithin session old rows → HasShape session packet
+    → OffersTo session old new (nat_lt rows max_kept) packet r
+    → Offers (record { session = session; batches = batches_in old }) (record { session = session; batches = batches_in new })
+    packet r
+Offers-of session old new rows packet (Ok taken) within shape offers = record {
+  session = refl;
+  taken = offers.takes.is;
+  kept = offers.takes.here;
+  others = offers.takes.elsewhere;
+  stands = λ packets stands. StandsFor-taken packets session old new packet taken offers.takes shape stands;
+  room = λ kept. grind (arith, nat_tests, within.count, offers.room kept);
+  full = tt;
+  same = tt;
+}
+Offers-of session old new rows packet (Err e) within shape offers = record {
+  session = refl;
+  taken = tt;
+  kept = tt;
+  others = tt;
+  stands = tt;
+  room = tt;
+  full = λ full. (grind (arith, nat_tests, within.count, within.limit, (offers.full full).0), (offers.full full).1);
+  same = ap (λ (slots : List Slot). record { session = session; batches = batches_in slots }) offers.same;
 }
 
 -- nothing is held of no packet

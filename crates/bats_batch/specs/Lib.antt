@@ -1,3 +1,4 @@
 pub mod Basis
 pub mod Held
+pub mod Offers
 pub mod steps

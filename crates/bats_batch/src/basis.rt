@@ -1,5 +1,5 @@
 //! The basis of one batch.
-ghost use Rattle.std.specs.Prelude.{ℕ, ◌≡◌, ◌<◌, ◌+◌, ◌≤◌, [], ◌∷◌, ◌++◌, List, All, length, IfOk, OnOk, OnErr, slice_get, Some};
+ghost use Rattle.std.specs.Prelude.{ℕ, ◌≡◌, ◌<◌, ◌+◌, ◌≤◌, [], ◌∷◌, ◌++◌, List, All, length, min, IfOk, OnOk, OnErr, slice_get, Some};
 
 use crate::entry::{Entry, keep};
 use crate::judged::{Judged, judge_packet};
@@ -38,6 +38,7 @@ impl Model for Basis {
         (pivots_of b.entries.items) (rows_of b.entries.items) };
 }
 
+ghost use Rattle.gf_rows.specs.Spends.{Spends};
 ghost use Rattle.bats_model.specs.declared.packet.Packet.{Packet};
 ghost use Rattle.bats_batch.specs.Basis.{IsSized, IsTaken, kept_with, StandsForBatch};
 
@@ -69,12 +70,8 @@ impl Basis {
         requires batch { All (λ other. other.batch ≡ packet.now.batch) self.old.kept }
         ensures taken { IfOk result (IsTaken self.old.kept packet.now) }
         ensures same { self.new ≡ self.old }
-        ensures coef_steps { coef_steps.new ≤ coef_steps.old + self.old.m }
-        ensures steps { steps.new ≤ steps.old + self.old.m }
-        ensures coef_steps_of_rank { coef_steps.new ≤ coef_steps.old + length self.old.kept }
-        ensures steps_of_rank { steps.new ≤ steps.old + length self.old.kept }
-        ensures coef_steps_rise { coef_steps.old ≤ coef_steps.new }
-        ensures steps_rise { steps.old ≤ steps.new }
+        ensures coef_steps { Spends coef_steps.old coef_steps.new (min self.old.m (length self.old.kept)) }
+        ensures steps { Spends steps.old steps.new (min self.old.m (length self.old.kept)) }
     {
         let judged = judge_packet(
             &self.entries,
@@ -109,12 +106,8 @@ impl Basis {
         ensures err { OnErr result (self.new ≡ self.old) }
         ensures stands { OnOk result ((packets : List Packet) → StandsForBatch packet.now.batch packets self.old
             → StandsForBatch packet.now.batch (packets ++ packet.now ∷ []) self.new) }
-        ensures coef_steps { coef_steps.new ≤ coef_steps.old + self.old.m }
-        ensures steps { steps.new ≤ steps.old + self.old.m }
-        ensures coef_steps_of_rank { coef_steps.new ≤ coef_steps.old + length self.old.kept + 1 }
-        ensures steps_of_rank { steps.new ≤ steps.old + length self.old.kept + 1 }
-        ensures coef_steps_rise { coef_steps.old ≤ coef_steps.new }
-        ensures steps_rise { steps.old ≤ steps.new }
+        ensures coef_steps { Spends coef_steps.old coef_steps.new (min self.old.m (length self.old.kept + 1)) }
+        ensures steps { Spends steps.old steps.new (min self.old.m (length self.old.kept + 1)) }
     {
         let judged = judge_packet(
             &self.entries,

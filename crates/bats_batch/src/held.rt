@@ -2,8 +2,9 @@
 ghost use Rattle.std.specs.Prelude.{◌≡◌, ◌≢◌, ◌<◌, ◌≤◌, ◌+◌, ◌∷◌, ◌++◌, [], List, All, length, IfOk, IfErr, OnOk, OnErr, MatchOption};
 ghost use Rattle.bats_model.specs.declared.packet.Packet.{Packet};
 ghost use Rattle.bats_model.specs.Kept.{kept_count};
-ghost use Rattle.bats_batch.specs.Basis.{IsTaken};
+ghost use Rattle.gf_rows.specs.Spends.{Spends};
 ghost use Rattle.bats_batch.specs.Held.{StandsFor, HaveRisingNumbers, kept_at, row_count, max_kept, batch_at, basis_with};
+ghost use Rattle.bats_batch.specs.Offers.{Offers, offer_cost};
 ghost use Rattle.bats_batch.specs.declared.held.HeldEnd.TheVariants.{Memory};
 ghost use Rattle.bats_batch.specs.steps.Slots.{gain_of};
 
@@ -102,20 +103,9 @@ impl Held {
     ) -> Result<Taken, HeldEnd>
         requires coefs { length packet.now.coefs ≡ self.old.session.m }
         requires payload { length packet.now.payload ≡ self.old.session.t }
-        ensures session { self.new.session ≡ self.old.session }
-        ensures taken { IfOk result (IsTaken (kept_at self.old.batches packet.now.batch) packet.now) }
-        ensures ok { OnOk result ((packets : List Packet) → StandsFor packets self.old
-            → StandsFor (packets ++ packet.now ∷ []) self.new) }
-        ensures err { OnErr result (self.new ≡ self.old) }
-        ensures room { IfOk result (λ taken. taken ≡ Taken.Kept → row_count self.old.batches < max_kept) }
-        ensures full { IfErr result (λ e. e ≡ HeldEnd.Full → ((row_count self.old.batches ≡ max_kept)
-            × IsTaken (kept_at self.old.batches packet.now.batch) packet.now Taken.Kept)) }
-        ensures coef_steps { coef_steps.new ≤ coef_steps.old + self.old.session.m }
-        ensures steps { steps.new ≤ steps.old + self.old.session.m }
-        ensures coef_steps_of_rank { coef_steps.new ≤ coef_steps.old + length (kept_at self.old.batches packet.now.batch) + 1 }
-        ensures steps_of_rank { steps.new ≤ steps.old + length (kept_at self.old.batches packet.now.batch) + 1 }
-        ensures coef_steps_rise { coef_steps.old ≤ coef_steps.new }
-        ensures steps_rise { steps.old ≤ steps.new }
+        ensures offers { Offers self.old self.new packet.now result }
+        ensures coef_steps { Spends coef_steps.old coef_steps.new (offer_cost self.old packet.now) }
+        ensures steps { Spends steps.old steps.new (offer_cost self.old packet.now) }
     {
         let _coefs = packet.coefs.as_slice();
         let _payload = packet.payload.as_slice();

@@ -1,9 +1,10 @@
 //! The slots of the held batches: looking a batch up, and offering a packet to it.
-ghost use Rattle.std.specs.Prelude.{◌≡◌, ◌↔◌, ◌<◌, ◌≤◌, ◌+◌, IsTrue, IsFalse, length, IfOk, IfErr, OnOk, OnErr};
+ghost use Rattle.std.specs.Prelude.{◌≡◌, ◌↔◌, ◌<◌, ◌≤◌, ◌+◌, IsTrue, IsFalse, length, min, IfOk, IfErr, OnOk, OnErr};
 ghost use Rattle.std.specs.List.{insert};
+ghost use Rattle.gf_rows.specs.Spends.{Spends};
 ghost use Rattle.bats_batch.specs.Basis.{IsTaken, kept_with};
-ghost use Rattle.bats_batch.specs.Held.{HaveRisingNumbers, kept_at};
-ghost use Rattle.bats_batch.specs.steps.Slots.{batches_in, StandsAt, BelongsAt, AreOf, AreSlots, Takes};
+ghost use Rattle.bats_batch.specs.Held.{HaveRisingNumbers};
+ghost use Rattle.bats_batch.specs.steps.Slots.{batches_in, StandsAt, BelongsAt, AreOf, AreSlots, OffersTo, slots_cost};
 
 use crate::basis::Basis;
 use crate::held::HeldEnd;
@@ -79,12 +80,8 @@ fn offer_within<C: Ledger, L: Ledger>(
     ensures err { OnErr result (basis.new ≡ basis.old) }
     ensures full { IfErr result (λ e. e ≡ HeldEnd.Full
         → (IsFalse has_room × IsTaken basis.old.kept packet.now Taken.Kept)) }
-    ensures coef_steps { coef_steps.new ≤ coef_steps.old + basis.old.m }
-    ensures steps { steps.new ≤ steps.old + basis.old.m }
-    ensures coef_steps_of_rank { coef_steps.new ≤ coef_steps.old + length basis.old.kept + 1 }
-    ensures steps_of_rank { steps.new ≤ steps.old + length basis.old.kept + 1 }
-    ensures coef_steps_rise { coef_steps.old ≤ coef_steps.new }
-    ensures steps_rise { steps.old ≤ steps.new }
+    ensures coef_steps { Spends coef_steps.old coef_steps.new (min basis.old.m (length basis.old.kept + 1)) }
+    ensures steps { Spends steps.old steps.new (min basis.old.m (length basis.old.kept + 1)) }
 {
     if has_room {
         return Ok(basis.offer(packet, coef_steps, steps)?);
@@ -109,17 +106,9 @@ fn offer_at<C: Ledger, L: Ledger>(
     requires place { StandsAt (batches_in slots.old) packet.now.batch place }
     requires coefs { length packet.now.coefs ≡ session.now.m }
     requires payload { length packet.now.payload ≡ session.now.t }
-    ensures takes { IfOk result (Takes session.now slots.old slots.new packet.now) }
-    ensures room { IfOk result (λ taken. taken ≡ Taken.Kept → IsTrue has_room) }
-    ensures err { OnErr result (slots.new ≡ slots.old) }
-    ensures full { IfErr result (λ e. e ≡ HeldEnd.Full
-        → (IsFalse has_room × IsTaken (kept_at (batches_in slots.old) packet.now.batch) packet.now Taken.Kept)) }
-    ensures coef_steps { coef_steps.new ≤ coef_steps.old + session.now.m }
-    ensures steps { steps.new ≤ steps.old + session.now.m }
-    ensures coef_steps_of_rank { coef_steps.new ≤ coef_steps.old + length (kept_at (batches_in slots.old) packet.now.batch) + 1 }
-    ensures steps_of_rank { steps.new ≤ steps.old + length (kept_at (batches_in slots.old) packet.now.batch) + 1 }
-    ensures coef_steps_rise { coef_steps.old ≤ coef_steps.new }
-    ensures steps_rise { steps.old ≤ steps.new }
+    ensures offers { OffersTo session.now slots.old slots.new has_room packet.now result }
+    ensures coef_steps { Spends coef_steps.old coef_steps.new (slots_cost session.now slots.old packet.now) }
+    ensures steps { Spends steps.old steps.new (slots_cost session.now slots.old packet.now) }
 {
     let slot = &mut slots[place];
     offer_within(&mut slot.basis, has_room, packet, coef_steps, steps)
@@ -150,17 +139,9 @@ fn open_at<C: Ledger, L: Ledger>(
     requires place { BelongsAt (batches_in slots.old.items) packet.now.batch place }
     requires coefs { length packet.now.coefs ≡ session.now.m }
     requires payload { length packet.now.payload ≡ session.now.t }
-    ensures takes { IfOk result (Takes session.now slots.old.items slots.new.items packet.now) }
-    ensures room { IfOk result (λ taken. taken ≡ Taken.Kept → IsTrue has_room) }
-    ensures err { OnErr result (slots.new.items ≡ slots.old.items) }
-    ensures full { IfErr result (λ e. e ≡ HeldEnd.Full
-        → (IsFalse has_room × IsTaken (kept_at (batches_in slots.old.items) packet.now.batch) packet.now Taken.Kept)) }
-    ensures coef_steps { coef_steps.new ≤ coef_steps.old + session.now.m }
-    ensures steps { steps.new ≤ steps.old + session.now.m }
-    ensures coef_steps_of_rank { coef_steps.new ≤ coef_steps.old + length (kept_at (batches_in slots.old.items) packet.now.batch) + 1 }
-    ensures steps_of_rank { steps.new ≤ steps.old + length (kept_at (batches_in slots.old.items) packet.now.batch) + 1 }
-    ensures coef_steps_rise { coef_steps.old ≤ coef_steps.new }
-    ensures steps_rise { steps.old ≤ steps.new }
+    ensures offers { OffersTo session.now slots.old.items slots.new.items has_room packet.now result }
+    ensures coef_steps { Spends coef_steps.old coef_steps.new (slots_cost session.now slots.old.items packet.now) }
+    ensures steps { Spends steps.old steps.new (slots_cost session.now slots.old.items packet.now) }
 {
     let mut basis = Basis::new(alloc, session.m(), session.t());
     let taken = offer_within(&mut basis, has_room, packet, coef_steps, steps)?;
@@ -190,17 +171,9 @@ pub(crate) fn offer_to<C: Ledger, L: Ledger>(
     requires absent { IfErr place (BelongsAt (batches_in slots.old.items) packet.now.batch) }
     requires coefs { length packet.now.coefs ≡ session.now.m }
     requires payload { length packet.now.payload ≡ session.now.t }
-    ensures takes { IfOk result (Takes session.now slots.old.items slots.new.items packet.now) }
-    ensures room { IfOk result (λ taken. taken ≡ Taken.Kept → IsTrue has_room) }
-    ensures err { OnErr result (slots.new.items ≡ slots.old.items) }
-    ensures full { IfErr result (λ e. e ≡ HeldEnd.Full
-        → (IsFalse has_room × IsTaken (kept_at (batches_in slots.old.items) packet.now.batch) packet.now Taken.Kept)) }
-    ensures coef_steps { coef_steps.new ≤ coef_steps.old + session.now.m }
-    ensures steps { steps.new ≤ steps.old + session.now.m }
-    ensures coef_steps_of_rank { coef_steps.new ≤ coef_steps.old + length (kept_at (batches_in slots.old.items) packet.now.batch) + 1 }
-    ensures steps_of_rank { steps.new ≤ steps.old + length (kept_at (batches_in slots.old.items) packet.now.batch) + 1 }
-    ensures coef_steps_rise { coef_steps.old ≤ coef_steps.new }
-    ensures steps_rise { steps.old ≤ steps.new }
+    ensures offers { OffersTo session.now slots.old.items slots.new.items has_room packet.now result }
+    ensures coef_steps { Spends coef_steps.old coef_steps.new (slots_cost session.now slots.old.items packet.now) }
+    ensures steps { Spends steps.old steps.new (slots_cost session.now slots.old.items packet.now) }
 {
     match place {
         Ok(place) => offer_at(slots, place, session, has_room, packet, coef_steps, steps),

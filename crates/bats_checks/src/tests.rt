@@ -1,5 +1,6 @@
 //! The tests of the libraries, a file a library.
 mod bases;
+mod certificates;
 mod crossing;
 mod encoding;
 mod field;

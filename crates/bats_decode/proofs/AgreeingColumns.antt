@@ -16,13 +16,10 @@ use Rattle.bats_model.specs.Symbol.{symbol_byte}
 use Rattle.bats_model.specs.Values.{packet_value, Satisfies}
 use Rattle.bats_model.specs.Agreement.{IsFile, Agrees, AgreesWithAll}
 use Rattle.bats_model.specs.PacketFile.{HasShape}
+use Rattle.bats_model.specs.Relay.{payloads_of}
 use Rattle.bats_model.specs.declared.packet.Packet.{Packet}
 use Rattle.bats_model.proofs.SymbolValues.{AreSameValues, packet_value-congruence}
 use Rattle.bats_decode.specs.steps.Replayed.{IsReplayed}
-
--- the payloads of the packets
-abbrev pub payloads_of : List Packet → List (List ℕ)
-payloads_of packets = map (λ packet. packet.payload) packets
 
 -- the bytes of the payloads in a column
 abbrev pub payload_column : List Packet → ℕ → List ℕ

@@ -1,33 +1,25 @@
 -- What a decoder stands for after one packet more, by what becomes of that packet.
-use Rattle.std.proofs.Common.{ℕ, ◌≡◌, ◌≢◌, ◌+◌, ◌-◌, ◌^◌, ◌∙◌, ◌↔◌, ◌⊎◌, sym, subst, refl, true, List, All, [], ◌∷◌, ◌++◌, length, take, map, min, arith, inl, inr, length-append}
+use Rattle.std.proofs.Common.{ℕ, ◌≡◌, ◌≢◌, ◌<◌, ◌+◌, ◌-◌, ◌^◌, ◌∙◌, ◌↔◌, ◌⊎◌, ap, sym, subst, refl, true, List, All, [], ◌∷◌, ◌++◌, length, take, map, min, arith, inl, inr, length-append, Result, Ok, Err}
+use Rattle.std.specs.Prelude.{IsErrAnd, ⊤}
 use Rattle.std.proofs.lemmas.List.{length_push, take_at}
 use Rattle.std.proofs.lemmas.List.Elements.{All-weaker}
-use Rattle.gf_core.specs.Combinations.{IsInSpan}
-use Rattle.gf_core.proofs.CombinationLemmas.{take-IsInSpan}
-use Rattle.bats_model.specs.Session.{SessionData}
 use Rattle.bats_model.specs.PacketFile.{HasShape}
-use Rattle.bats_model.specs.Kept.{IsCombination, Follows, coefs_of, packet_row}
 use Rattle.bats_model.specs.declared.packet.Packet.{Packet}
 use Rattle.bats_model.specs.declared.taken.Taken.{Taken}
 use Rattle.bats_model.specs.declared.taken.Taken.TheVariants.{Kept, Dependent, Contradiction}
 use Rattle.bats_model.proofs.KeptSpans.{All-kept_of}
 use Rattle.bats_batch.specs.Basis.{IsTaken, IsSized}
-use Rattle.bats_batch.specs.Held.{HeldData, kept_at}
+use Rattle.bats_batch.specs.Held.{HeldData, kept_at, row_count, max_kept}
+use Rattle.bats_batch.specs.Offers.{Offers}
+use Rattle.bats_batch.specs.declared.held.HeldEnd.{HeldEnd}
 use Rattle.bats_batch.specs.Held.{StandsFor as HoldsFor}
-use Rattle.bats_batch.proofs.KeptRows.{take-packet_rows}
+use Rattle.bats_batch.proofs.KeptRows.{IsSized-shape}
+use Rattle.bats_batch.proofs.KeptOfBatches.{combination-follows}
 use Rattle.bats_batch.proofs.Contradictions.{contradictions-grow}
-use Rattle.bats_decode.specs.Decoder.{DecoderData, StandsFor}
+use Rattle.bats_decode.specs.Decoder.{DecoderData, StandsFor, Collects}
 use Rattle.bats_decode.specs.steps.Received.{HasReceived}
 
 -- ---- packets of which one thing alone can become
-
-IsSized-shape : (session : SessionData) (packet : Packet) → HasShape session packet → IsSized session.m session.t packet
-IsSized-shape session packet shape = record {
-  coefs = shape.coefs;
-  payload = shape.payload;
-  coef_bytes = shape.coef_bytes;
-  payload_bytes = shape.payload_bytes;
-}
 
 -- the kept packets of a batch have the sizes of the session
 pub sizes-kept : (held : HeldData) → HasReceived held → (number : ℕ) → All (IsSized held.session.m held.session.t) (kept_at held.batches number)
@@ -36,19 +28,6 @@ sizes-kept held received number =
     subst (All Sized) (sym (received.stands.kept number))
     (All-kept_of Sized number received.packets
     (All-weaker (HasShape held.session) Sized (IsSized-shape held.session) received.packets received.stands.shapes))
-
--- the vector of a packet that follows is a combination of the kept ones
-combination-follows : (m t : ℕ) (kept : List Packet) (packet : Packet) → All (IsSized m t) kept → length packet.coefs ≡ m
-    → length packet.payload ≡ t → Follows kept packet → IsCombination (coefs_of kept) packet.coefs
-combination-follows m t kept packet sizes coefs payload follows =
-    let rows : List (List ℕ) = map packet_row kept in
-    let width : length (packet_row packet) ≡ m + t = omega (arith, length-append packet.coefs packet.payload, coefs, payload) in
-    let whole : IsInSpan (m + t) rows (packet_row packet) = subst (λ (n : ℕ). IsInSpan n rows (packet_row packet)) width follows in
-    let front : IsInSpan m (map (take m) rows) (take m (packet_row packet)) =
-    take-IsInSpan (m + t) m rows (packet_row packet) (omega arith) whole in
-    subst (λ (n : ℕ). IsInSpan n (coefs_of kept) packet.coefs) (sym coefs)
-    (subst (IsInSpan m (coefs_of kept)) (take_at packet.coefs packet.payload m coefs)
-    (subst (λ (vectors : List (List ℕ)). IsInSpan m vectors (take m (packet_row packet))) (take-packet_rows m t kept sizes) front))
 
 -- what holds where a packet is kept holds where it is new
 pub of-new : (P : Type 0) (m t : ℕ) (kept : List Packet) (packet : Packet) (taken : Taken) → All (IsSized m t) kept
@@ -116,3 +95,33 @@ StandsFor-agreeing packets packet old new taken holds told differs is counts sta
         | inr contradicts ↦ absurd (no-contradiction (kept_at old.held.batches packet.batch) packet taken differs is contradicts)
       ],
     ) counts stands
+
+-- ---- what came of the offer
+
+-- where the packet was taken
+pub Collects-taken : (old new : DecoderData) (packet : Packet) (taken : Taken) → HasReceived old.held
+    → length packet.coefs ≡ old.held.session.m → length packet.payload ≡ old.held.session.t
+    → Offers old.held new.held packet (Ok taken)
+    → ((packets : List Packet) → StandsFor packets old → StandsFor (packets ++ packet ∷ []) new) → Collects old new packet (Ok tt)
+Collects-taken old new packet taken received coefs payload offers goes =
+    let kept : List Packet = kept_at old.held.batches packet.batch in
+    record {
+      session = offers.session;
+      stands = goes;
+      room = of-new (row_count old.held.batches < max_kept) old.held.session.m old.held.session.t kept packet taken
+          (sizes-kept old.held received packet.batch) coefs payload offers.taken offers.room;
+      full = tt;
+      same = tt;
+    }
+
+-- where it was not
+pub Collects-exit : (old : DecoderData) (held : HeldData) (packet : Packet) (r : Result ⊤ HeldEnd) (e : HeldEnd)
+    → IsErrAnd r (λ y. y ≡ e) → Offers old.held held packet (Err e) → Collects old (record old { held = held }) packet r
+Collects-exit old held packet (Ok x) e exit offers = absurd exit
+Collects-exit old held packet (Err y) e exit offers = record {
+  session = offers.session;
+  stands = tt;
+  room = tt;
+  full = λ full. offers.full (sym exit ∙ full);
+  same = ap (λ (h : HeldData). record old { held = h }) offers.same;
+}

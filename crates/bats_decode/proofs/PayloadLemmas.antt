@@ -2,7 +2,6 @@
 use Rattle.std.proofs.Common.{ℕ, ◌≡◌, ◌<◌, ◌≤◌, ◌+◌, ◌∙◌, sym, ap, subst, refl, List, [], ◌∷◌, ◌++◌, length, get_or, set, take, arith, append_assoc, append-nil}
 use Rattle.std.specs.Prelude.{All, flat_map, slice_get, Some}
 use Rattle.std.proofs.lemmas.List.{take_more, take_more_set, take_all, map-append}
-use Rattle.std.proofs.lemmas.List.Concat.{length-flat_map}
 use Rattle.std.proofs.lemmas.List.Sums.{sum_by_push, sum_by-take-le}
 use Rattle.std.proofs.lemmas.Grind.{flat_map-append}
 use Rattle.std.proofs.lemmas.Option.{slice_get_within, get_or_from_slice_get}
@@ -12,17 +11,13 @@ use Rattle.gf_rows.specs.Plan.{plan_on_rows}
 use Rattle.gf_rows.proofs.PlanLemmas.{plan_on_rows-push, length-plan_on_rows}
 use Rattle.bats_model.specs.declared.packet.Packet.{Packet}
 use Rattle.bats_batch.specs.Held.{HeldBatch, no_batch, batch_at, row_count, kept_packets}
-use Rattle.bats_decode.specs.steps.Replayed.{payloads_of}
+use Rattle.bats_model.specs.Relay.{payloads_of}
 
 -- ---- held batches
 
 pub kept_packets-none : kept_packets [] ≡ []
 unfolding kept_packets
 kept_packets-none = refl
-
-pub length-kept_packets : (batches : List HeldBatch) → length (kept_packets batches) ≡ row_count batches
-unfolding kept_packets
-length-kept_packets batches = length-flat_map (λ (batch : HeldBatch). batch.kept) batches
 
 module _ (batches : List HeldBatch) (i : ℕ) (within : i < length batches) where
   -- those before the next batch

@@ -1,23 +1,18 @@
 -- The places of the columns' symbols, written one column after another.
-use Rattle.std.proofs.Common.{ℕ, zero, suc, ◌≡◌, ◌≢◌, ◌<◌, ◌≤◌, ◌+◌, ◌∙◌, inl, inr, List, length, get_or, set, sym, ap, subst, arith, get_or-set_same, get_or-set_other}
+use Rattle.std.proofs.Common.{ℕ, ◌≡◌, ◌≢◌, ◌<◌, ◌+◌, ◌∙◌, inl, inr, List, length, get_or, set, sym, ap, subst, arith, get_or-set_same, get_or-set_other}
 use Rattle.std.specs.Prelude.{All, AllPairs, Contains}
 use Rattle.std.proofs.lemmas.Bool.{cases_lt}
 use Rattle.std.proofs.lemmas.List.Elements.{Contains-get_or}
 use Rattle.bats_dense.specs.Reduced.{AreSplit}
 use Rattle.bats_dense.proofs.Completing.{rising-apart, pivot-not-free}
+use Rattle.bats_peel.proofs.PlaceSums.{rising-at_least}
 use Rattle.bats_decode.specs.declared.elimination.Place.{Place}
 use Rattle.bats_decode.specs.declared.elimination.Place.TheVariants.{Row}
 use Rattle.bats_decode.specs.steps.Eliminated.{HavePlaces}
 
 -- ---- numbers
 
--- rising numbers are at least their places
-pub rising-at_least : (xs : List ℕ) (i : ℕ) → AllPairs (λ a b. a < b) xs → i < length xs → i ≤ get_or xs i 0
-rising-at_least xs zero rise h = omega arith
-rising-at_least xs (suc i) rise h =
-    omega (arith, rising-at_least xs i rise (omega arith), rise i (suc i) 0 (omega arith) h)
-
--- so there are no more of them than the numbers that they are below
+-- rising numbers are at least their places, so there are no more of them than the numbers that they are below
 pub rising-count : (xs : List ℕ) (n i : ℕ) → AllPairs (λ a b. a < b) xs → All (λ j. j < n) xs → i < length xs → i < n
 rising-count xs n i rise within h = omega (arith, rising-at_least xs i rise h, within i 0 h)
 

@@ -58,12 +58,11 @@ ghost use Rattle.bats_model.specs.Peeling.{IsInactiveList, largest_degree};
 ghost use Rattle.bats_model.specs.RightAnswer.{IsRightAnswer};
 ghost use Rattle.bats_model.specs.Kept.{kept_count};
 ghost use Rattle.bats_model.specs.declared.packet.Packet.{Packet};
-ghost use Rattle.bats_model.specs.declared.taken.Taken.TheVariants.{Kept};
-ghost use Rattle.bats_batch.specs.Basis.{IsTaken};
-ghost use Rattle.bats_batch.specs.Held.{kept_at, max_kept, row_count, kept_packets};
-ghost use Rattle.bats_batch.specs.declared.held.HeldEnd.TheVariants.{Full};
+ghost use Rattle.bats_batch.specs.Held.{row_count, kept_packets};
+ghost use Rattle.bats_batch.specs.Offers.{offer_cost};
 ghost use Rattle.gf_rows.specs.Operation.{FitsRows};
-ghost use Rattle.bats_decode.specs.Decoder.{StandsFor};
+ghost use Rattle.gf_rows.specs.Spends.{Spends};
+ghost use Rattle.bats_decode.specs.Decoder.{StandsFor, Collects};
 ghost use Rattle.bats_decode.specs.SolvingPlan.{PlanFollows};
 ghost use Rattle.bats_decode.specs.steps.SymbolRows.{symbol_rows, rows_with};
 
@@ -123,18 +122,9 @@ impl Decoder {
     ) -> Result<(), HeldEnd>
         requires coefs { length packet.now.coefs ≡ self.old.held.session.m }
         requires payload { length packet.now.payload ≡ self.old.held.session.t }
-        ensures session { self.new.held.session ≡ self.old.held.session }
-        ensures ok { OnOk result ((packets : List Packet) → StandsFor packets self.old
-            → StandsFor (packets ++ packet.now ∷ []) self.new) }
-        ensures err { OnErr result (self.new ≡ self.old) }
-        ensures room { OnOk result (IsTaken (kept_at self.old.held.batches packet.now.batch) packet.now Kept
-            → row_count self.old.held.batches < max_kept) }
-        ensures full { IfErr result (λ e. e ≡ Full → ((row_count self.old.held.batches ≡ max_kept)
-            × IsTaken (kept_at self.old.held.batches packet.now.batch) packet.now Kept)) }
-        ensures coef_steps { coef_steps.new ≤ coef_steps.old + self.old.held.session.m }
-        ensures steps { steps.new ≤ steps.old + self.old.held.session.m }
-        ensures coef_steps_rise { coef_steps.old ≤ coef_steps.new }
-        ensures steps_rise { steps.old ≤ steps.new }
+        ensures collects { Collects self.old self.new packet.now result }
+        ensures coef_steps { Spends coef_steps.old coef_steps.new (offer_cost self.old.held packet.now) }
+        ensures steps { Spends steps.old steps.new (offer_cost self.old.held packet.now) }
     {
         let taken = self.held.offer(packet, coef_steps, steps)?;
         self.packets = self.packets.saturating_add(1);

@@ -4,7 +4,8 @@ ghost use Rattle.gf_rows.specs.Matrix.{IsMatrix, matrix_row, matrix_entry};
 ghost use Rattle.gf_rows.specs.Operation.{FitsRows, IsRowOperation, op_on_rows};
 ghost use Rattle.gf_rows.specs.Plan.{plan_on_rows};
 ghost use Rattle.bats_batch.specs.Held.{kept_packets};
-ghost use Rattle.bats_decode.specs.steps.Replayed.{payload_grid, payloads_of};
+ghost use Rattle.bats_model.specs.Relay.{payloads_of};
+ghost use Rattle.bats_decode.specs.steps.Replayed.{payload_grid};
 
 use bats_batch::{Basis, Held};
 use bats_model::Session;

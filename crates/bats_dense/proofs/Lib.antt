@@ -1,6 +1,6 @@
 mod ClearLemmas
 pub mod Completing
-mod EliminationLemmas
+mod ColumnLemmas
 mod ReductionLemmas
 pub mod ResultLemmas
 mod UnusedLemmas

@@ -10,7 +10,7 @@ use Rattle.gf_rows.specs.declared.operation.Op.{Op}
 use Rattle.gf_rows.specs.Matrix.{Grid, matrix_entry}
 use Rattle.bats_dense.specs.Reduced.{AreSplit, IsZeroRow, IsReduced}
 use Rattle.bats_dense.specs.declared.dense.Dense.{Dense}
-use Rattle.bats_dense.specs.steps.Clearing.{Eliminates}
+use Rattle.bats_dense.specs.steps.Clearing.{ClearsColumn}
 use Rattle.bats_dense.specs.steps.Below.{is_used, IsUsedRow, IsReducedBelow, IsPivotPlace, IsUnusedRow, AreUnused}
 
 -- ---- pivot columns and free columns
@@ -177,7 +177,7 @@ IsReducedBelow-free c m eqs others used read rows columns free pushed_free state
 
 module _ (c place : ℕ) (m n : Grid) (before after : List Op) (eqs others : List ℕ) (used : List Bool) (rows columns free : List ℕ)
     (state : IsReducedBelow c m eqs others used rows columns free) (within : place < length eqs) (unused : is_used used place ≡ false) (column_within : c < m.cols)
-    (did : Eliminates eqs others place c m n before after) where
+    (did : ClearsColumn eqs others place c m n before after) where
   abbrev pivot : ℕ
   pivot = get_or eqs place 0
 
@@ -275,7 +275,7 @@ module _ (c place : ℕ) (m n : Grid) (before after : List Op) (eqs others : Lis
 
 -- by what was read and what was pushed
 pub IsReducedBelow-pivot : (c place : ℕ) (m n : Grid) (before after : List Op) (eqs others : List ℕ) (used read : List Bool) (rows columns free pushed_rows pushed_columns : List ℕ)
-    → IsReducedBelow c m eqs others used rows columns free → read ≡ used → IsPivotPlace m eqs read c place → c < m.cols → Eliminates eqs others place c m n before after
+    → IsReducedBelow c m eqs others used rows columns free → read ≡ used → IsPivotPlace m eqs read c place → c < m.cols → ClearsColumn eqs others place c m n before after
     → pushed_rows ≡ rows ++ get_or eqs place 0 ∷ [] → pushed_columns ≡ columns ++ c ∷ []
     → IsReducedBelow (c + 1) n eqs others (set used place true) pushed_rows pushed_columns free
 IsReducedBelow-pivot c place m n before after eqs others used read rows columns free pushed_rows pushed_columns state e found column_within did f h =

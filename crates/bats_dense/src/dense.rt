@@ -2,11 +2,12 @@
 ghost use Rattle.std.specs.Prelude.{◌≡◌, ◌≢◌, ◌+◌, ◌*◌, ◌≤◌, All, AllPairs, IfOk, length};
 ghost use Rattle.gf_rows.specs.Operation.{FitsRows};
 ghost use Rattle.gf_rows.specs.Performed.{Performed};
+ghost use Rattle.gf_rows.specs.Spends.{Spends};
 ghost use Rattle.bats_dense.specs.Reduced.{AreTargets, IsReduced};
 ghost use Rattle.bats_dense.specs.Kept.{KeepsOutside, KeepsSolutions};
 ghost use Rattle.bats_dense.specs.steps.Below.{AreUnused};
 
-use crate::progress::{Progress, eliminate};
+use crate::progress::{Progress, reduce_columns};
 use bats_model::Nums;
 use gf_rows::{Matrix, Plan, Steps};
 use std::alloc::{AllocError, Global};
@@ -68,8 +69,7 @@ pub fn reduce<C: Ledger>(
     ensures solutions { IfOk result (λ dense. KeepsSolutions eqs matrix dense.matrix plan dense.plan) }
     ensures fits { IfOk result (λ dense. All (FitsRows (length dense.matrix.rows)) dense.plan) }
     ensures counted { IfOk result (λ dense. coef_steps.new + length plan ≡ coef_steps.old + length dense.plan) }
-    ensures coef_steps { coef_steps.new ≤ coef_steps.old + (length eqs + length others) * matrix.cols }
-    ensures coef_steps_rise { coef_steps.old ≤ coef_steps.new }
+    ensures coef_steps { Spends coef_steps.old coef_steps.new ((length eqs + length others) * matrix.cols) }
 {
     let _rows = matrix.rows();
     let used = vec![in alloc; false; eqs.len()]?;
@@ -81,7 +81,7 @@ pub fn reduce<C: Ledger>(
         pivot_columns: Nums::new(alloc),
         free: Nums::new(alloc),
     };
-    eliminate(&mut progress, eqs.as_slice(), others.as_slice(), coef_steps)?;
+    reduce_columns(&mut progress, eqs.as_slice(), others.as_slice(), coef_steps)?;
     let zero_rows = unused_rows(alloc, eqs.as_slice(), &progress.used)?;
     Ok(Dense {
         matrix: progress.matrix,

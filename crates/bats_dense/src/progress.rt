@@ -1,19 +1,20 @@
-//! Elimination column by column.
+//! The reduction, column by column.
 ghost use Rattle.std.specs.Prelude.{ℕ, ◌≡◌, ◌+◌, ◌*◌, ◌<◌, ◌≤◌, false, All, OnOk, MatchOption, length, slice_index};
 ghost use Rattle.gf_rows.specs.Matrix.{matrix_entry};
 ghost use Rattle.gf_rows.specs.Performed.{Performed};
+ghost use Rattle.gf_rows.specs.Spends.{Spends};
 ghost use Rattle.bats_dense.specs.Reduced.{AreTargets};
 ghost use Rattle.bats_dense.specs.Kept.{KeepsOutside};
-ghost use Rattle.bats_dense.specs.steps.Below.{is_used, IsPivotPlace, IsEliminatedBelow};
+ghost use Rattle.bats_dense.specs.steps.Below.{is_used, IsPivotPlace, IsProgressBelow};
 
-use crate::rows::eliminate_rows;
+use crate::rows::clear_column;
 use bats_model::Nums;
 use gf_core::Gf;
 use gf_rows::{Matrix, Plan, Steps};
 use std::alloc::AllocError;
 use std::sync::ledger::Ledger;
 
-// What elimination has come to: the matrix and the plan so far, which equations have a pivot, by their places, and the
+// What the reduction has come to: the matrix and the plan so far, which equations have a pivot, by their places, and the
 // columns that were gone through.
 #[derive(Drop)]
 pub(crate) struct Progress {
@@ -44,7 +45,7 @@ fn find_pivot(matrix: &Matrix, eqs: &[u32], used: &[bool], column: u32) -> Optio
 }
 
 // Goes through one more column: an equation that has no pivot gets one there, or the column is free.
-fn eliminate_column<C: Ledger>(
+fn reduce_column<C: Ledger>(
     progress: &mut Progress,
     eqs: &[u32],
     others: &[u32],
@@ -53,21 +54,20 @@ fn eliminate_column<C: Ledger>(
 ) -> Result<(), AllocError>
     requires targets { AreTargets progress.old.matrix eqs.now others.now }
     requires column { column < progress.old.matrix.cols }
-    requires below { IsEliminatedBelow column eqs.now others.now progress.old }
-    ensures below { OnOk result (IsEliminatedBelow (column + 1) eqs.now others.now progress.new) }
+    requires below { IsProgressBelow column eqs.now others.now progress.old }
+    ensures below { OnOk result (IsProgressBelow (column + 1) eqs.now others.now progress.new) }
     ensures performed { OnOk result (Performed eqs.now progress.old.matrix progress.new.matrix
         progress.old.plan progress.new.plan) }
     ensures outside { OnOk result (KeepsOutside eqs.now others.now progress.old.matrix progress.new.matrix) }
     ensures counted { OnOk result (coef_steps.new + length progress.old.plan
         ≡ coef_steps.old + length progress.new.plan) }
-    ensures coef_steps { coef_steps.new ≤ coef_steps.old + (length eqs.now + length others.now) }
-    ensures coef_steps_rise { coef_steps.old ≤ coef_steps.new }
+    ensures coef_steps { Spends coef_steps.old coef_steps.new (length eqs.now + length others.now) }
 {
     let Some(place) = find_pivot(&progress.matrix, eqs, &progress.used, column) else {
         progress.free.push(column)?;
         return Ok(());
     };
-    eliminate_rows(
+    clear_column(
         &mut progress.matrix,
         &mut progress.plan,
         eqs,
@@ -83,26 +83,24 @@ fn eliminate_column<C: Ledger>(
 }
 
 // Goes through all columns.
-pub(crate) fn eliminate<C: Ledger>(
+pub(crate) fn reduce_columns<C: Ledger>(
     progress: &mut Progress,
     eqs: &[u32],
     others: &[u32],
     coef_steps: &mut Steps<C>,
 ) -> Result<(), AllocError>
     requires targets { AreTargets progress.old.matrix eqs.now others.now }
-    requires below { IsEliminatedBelow 0 eqs.now others.now progress.old }
-    ensures below { OnOk result (IsEliminatedBelow progress.new.matrix.cols eqs.now others.now progress.new) }
+    requires below { IsProgressBelow 0 eqs.now others.now progress.old }
+    ensures below { OnOk result (IsProgressBelow progress.new.matrix.cols eqs.now others.now progress.new) }
     ensures performed { OnOk result (Performed eqs.now progress.old.matrix progress.new.matrix
         progress.old.plan progress.new.plan) }
     ensures outside { OnOk result (KeepsOutside eqs.now others.now progress.old.matrix progress.new.matrix) }
     ensures counted { OnOk result (coef_steps.new + length progress.old.plan
         ≡ coef_steps.old + length progress.new.plan) }
-    ensures coef_steps { coef_steps.new
-        ≤ coef_steps.old + (length eqs.now + length others.now) * progress.old.matrix.cols }
-    ensures coef_steps_rise { coef_steps.old ≤ coef_steps.new }
+    ensures coef_steps { Spends coef_steps.old coef_steps.new ((length eqs.now + length others.now) * progress.old.matrix.cols) }
 {
     'columns: for column in 0..progress.matrix.cols() {
-        eliminate_column(progress, eqs, others, column, coef_steps)?;
+        reduce_column(progress, eqs, others, column, coef_steps)?;
     }
     Ok(())
 }

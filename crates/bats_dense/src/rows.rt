@@ -1,8 +1,9 @@
 //! The row operations of one column, each of which is done on the matrix and appended to the plan.
 ghost use Rattle.std.specs.Prelude.{◌≡◌, ◌≢◌, ◌+◌, ◌<◌, ◌≤◌, [], ◌∷◌, All, OnOk, length, slice_index};
 ghost use Rattle.gf_rows.specs.Matrix.{matrix_entry};
+ghost use Rattle.gf_rows.specs.Spends.{Spends};
 ghost use Rattle.bats_dense.specs.Reduced.{AreTargets};
-ghost use Rattle.bats_dense.specs.steps.Clearing.{Clears, Normalizes, Eliminates};
+ghost use Rattle.bats_dense.specs.steps.Clearing.{Clears, Normalizes, ClearsColumn};
 
 use gf_core::Gf;
 use gf_rows::{Matrix, Op, Plan, Steps};
@@ -25,8 +26,7 @@ fn clear_row<C: Ledger>(
     requires one { matrix_entry matrix.old pivot column ≡ 1 }
     ensures clears { OnOk result (Clears pivot column (row ∷ []) matrix.old matrix.new plan.old plan.new) }
     ensures counted { OnOk result (coef_steps.new + length plan.old ≡ coef_steps.old + length plan.new) }
-    ensures coef_steps { coef_steps.new ≤ coef_steps.old + 1 }
-    ensures coef_steps_rise { coef_steps.old ≤ coef_steps.new }
+    ensures coef_steps { Spends coef_steps.old coef_steps.new 1 }
 {
     let factor = matrix.get(row, column);
     if factor == Gf::ZERO {
@@ -58,8 +58,7 @@ fn clear_rows<C: Ledger>(
     requires one { matrix_entry matrix.old pivot column ≡ 1 }
     ensures clears { OnOk result (Clears pivot column rows.now matrix.old matrix.new plan.old plan.new) }
     ensures counted { OnOk result (coef_steps.new + length plan.old ≡ coef_steps.old + length plan.new) }
-    ensures coef_steps { coef_steps.new ≤ coef_steps.old + length rows.now }
-    ensures coef_steps_rise { coef_steps.old ≤ coef_steps.new }
+    ensures coef_steps { Spends coef_steps.old coef_steps.new (length rows.now) }
 {
     'clearing: for row in rows {
         clear_row(matrix, plan, pivot, column, *row, coef_steps)?;
@@ -80,8 +79,7 @@ fn make_one<C: Ledger>(
     requires entry { matrix_entry matrix.old row column ≢ 0 }
     ensures normalizes { OnOk result (Normalizes row column matrix.old matrix.new plan.old plan.new) }
     ensures counted { OnOk result (coef_steps.new + length plan.old ≡ coef_steps.old + length plan.new) }
-    ensures coef_steps { coef_steps.new ≤ coef_steps.old + 1 }
-    ensures coef_steps_rise { coef_steps.old ≤ coef_steps.new }
+    ensures coef_steps { Spends coef_steps.old coef_steps.new 1 }
 {
     let entry = matrix.get(row, column);
     if entry == Gf::ONE {
@@ -95,7 +93,7 @@ fn make_one<C: Ledger>(
 }
 
 // Makes the equation at a place 1 in a column where it isn't 0, and all other equations and the others 0 there.
-pub(crate) fn eliminate_rows<C: Ledger>(
+pub(crate) fn clear_column<C: Ledger>(
     matrix: &mut Matrix,
     plan: &mut Plan,
     eqs: &[u32],
@@ -108,10 +106,9 @@ pub(crate) fn eliminate_rows<C: Ledger>(
     requires place { place < length eqs.now }
     requires column { column < matrix.old.cols }
     requires entry { matrix_entry matrix.old (slice_index eqs.now place) column ≢ 0 }
-    ensures eliminates { OnOk result (Eliminates eqs.now others.now place column matrix.old matrix.new plan.old plan.new) }
+    ensures clears { OnOk result (ClearsColumn eqs.now others.now place column matrix.old matrix.new plan.old plan.new) }
     ensures counted { OnOk result (coef_steps.new + length plan.old ≡ coef_steps.old + length plan.new) }
-    ensures coef_steps { coef_steps.new ≤ coef_steps.old + (length eqs.now + length others.now) }
-    ensures coef_steps_rise { coef_steps.old ≤ coef_steps.new }
+    ensures coef_steps { Spends coef_steps.old coef_steps.new (length eqs.now + length others.now) }
 {
     let pivot = eqs[place];
     make_one(matrix, plan, pivot, column, coef_steps)?;

@@ -24,7 +24,7 @@ use Rattle.bats_model.specs.declared.read_end.HeaderField.{HeaderField}
 use Rattle.bats_model.specs.declared.read_end.ReadEnd.{ReadEnd}
 use Rattle.bats_model.specs.declared.read_end.ReadEnd.TheVariants as ends
 use Rattle.bats_format.specs.Filling.{IsFilled, FailsWithin, IsPart, PartIsFilled, FillsPart}
-use Rattle.bats_format.specs.Taking.{HasNoRecord, room_of, size_read, StopsFirst, FirstStops, TakesFirst, ReadsWithin, FailsAt, IsStop, StopsAt, StopCause, Stops, TakesByte, TakesItem, TakesBody, LacksMemoryAt}
+use Rattle.bats_format.specs.Taking.{HasNoRecord, room_of, size_read, StopsFirst, FirstStops, TakesFirst, ReadsWithin, FailsAt, IsStop, StopsAt, StopCause, Stops, TakesByte, TakesItem, TakesBody, LacksMemoryAt, TakesRecord}
 use Rattle.bats_format.proofs.RecordLemmas.{same_parts, length-header_record, header_rest, header_record-begins, length-packet_record, packet_rest, packet_record-begins}
 use Rattle.bats_format.proofs.PacketFiles.{IsPacketFile-header}
 use Rattle.bats_format.proofs.Refusals.{front_begins}
@@ -777,3 +777,10 @@ TakesItem-packet {before} {after} {offset} {batch} session number coefs payload 
       place = (refl, record { batch = fits; coefs = a; payload = b; coef_bytes = small_coefs; payload_bytes = small_payload });
       no_fault = filled.no_fault;
     }
+
+-- the exit where a record's body is not given
+pub TakesRecord-exit : {before after : InputState} {session : SessionData} {records offset : ℕ} {end : ReadEnd} (result : Result (Option Item) ReadEnd)
+    → IsErrAnd result (λ y. y ≡ end) → Stops before after session records offset [] end → TakesRecord before after session records offset result
+TakesRecord-exit {before} {after} {session} {records} {offset} {end} result h s =
+    let e = err_from_is_err_and result h in
+    subst (TakesRecord before after session records offset) (sym (e.1 ∙ ap Err e.2)) s

@@ -1,4 +1,3 @@
-ghost use Rattle.std.specs.Prelude.{◌++◌, length};
 ghost use Rattle.bats_format.specs.Filling.{Fills, FillsPart};
 
 use bats_io::{Failed, Source};
@@ -39,22 +38,4 @@ pub(crate) fn fill_part<S: Source>(source: &mut S, at: u64, part: &mut [u8]) -> 
         }
         Err(_) => Err(ReadEnd::ReadFault),
     }
-}
-
-/// Fills three parts of the record that begins at the offset `at`, one after the other.
-pub(crate) fn fill_three<S: Source>(
-    source: &mut S,
-    at: u64,
-    first: &mut [u8],
-    second: &mut [u8],
-    third: &mut [u8],
-) -> Result<(), ReadEnd>
-    ensures { FillsPart
-        (S.state source.old)
-        (S.state source.new)
-        at (first.new ++ second.new ++ third.new) result }
-{
-    fill_part(source, at, first)?;
-    fill_part(source, at, second)?;
-    fill_part(source, at, third)
 }

@@ -1,4 +1,4 @@
-ghost use Rattle.std.specs.Prelude.{◌≡◌, [], None, Some, false, option_map};
+ghost use Rattle.std.specs.Prelude.{◌≡◌};
 
 use crate::records::{record_size, take_first, take_record};
 use bats_io::Source;
@@ -6,10 +6,10 @@ use bats_model::{Item, ReadEnd, Session};
 use std::alloc::Global;
 use std::marker::Model;
 
-/// A reader of a packet file, one record at a time, whatever pieces the input comes in.
+/// A reader of a packet file whose first header was read, one record at a time, whatever pieces the input comes in.
 #[derive(Debug, Drop)]
 pub struct Reader {
-    session: Option<Session>,
+    session: Session,
     records: u32,
     offset: u64,
     ended: bool,
@@ -20,7 +20,7 @@ impl Model for Reader {
     ghost use Rattle.std.specs.Prelude.{◌≤◌, ◌*◌};
     ghost use Rattle.bats_model.specs.PacketFile.{most_records};
     ghost use Rattle.bats_format.specs.Taking.{most_of_record};
-    ghost use Rattle.bats_format.specs.Reader.{ReaderData, BeginsAtNothing};
+    ghost use Rattle.bats_format.specs.Reader.{ReaderData};
 
     ghost Value = { ReaderData };
 
@@ -32,42 +32,42 @@ impl Model for Reader {
       refused = r.refused;
     } };
 
-    ghost invariant = { λ r. (r.records ≤ most_records) × (r.offset ≤ most_of_record * r.records)
-        × BeginsAtNothing r.session r.records r.offset };
+    ghost invariant = { λ r. (r.records ≤ most_records) × (r.offset ≤ most_of_record * r.records) };
 }
 
 impl Reader {
-    ghost use Rattle.bats_format.specs.Reader.{StandsFor, IsOpen, Nexts};
+    ghost use Rattle.bats_format.specs.Reader.{Opens, Nexts};
 
-    /// A reader that has read nothing. It takes no memory.
-    pub fn new() -> Reader
-        ensures nothing_read { StandsFor [] [] result }
-        ensures fresh { result ≡ record {
-          session = None;
-          records = 0;
-          offset = 0;
-          ended = false;
-          refused = None;
-        } }
+    /// Reads the first header, 32 bytes, of which the reader then stands for the item at 0. It takes no memory. Where the
+    /// input begins with another byte than a header, that byte alone is read.
+    pub fn open<S: Source>(source: &mut S) -> Result<Reader, ReadEnd>
+        ensures { Opens
+            (S.state source.old)
+            (S.state source.new)
+            result }
     {
-        Reader {
-            session: None,
-            records: 0,
-            offset: 0,
-            ended: false,
-            refused: None,
+        match take_first(source) {
+            Ok(session) => Ok(Reader {
+                session,
+                records: 1,
+                offset: 32,
+                ended: false,
+                refused: None,
+            }),
+            Err(refusal) => Err(refusal),
         }
     }
 
-    /// The session, once the first header was read.
-    pub fn session(&self) -> Option<&Session>
-        ensures { option_map (λ session. session.now) result ≡ self.now.session }
+    /// The session of the first header.
+    pub fn session(&self) -> &Session
+        ensures { result.now ≡ self.now.session }
     {
-        self.session.as_ref()
+        &self.session
     }
 
-    /// The next record. `Ok(None)` is the end of the input after a whole record. After a refusal, and after `Ok(None)`,
-    /// each later call answers the same and reads nothing. Memory is taken once a packet's first byte was read.
+    /// The record after those that were read. `Ok(None)` is the end of the input after a whole record. After a refusal, and
+    /// after `Ok(None)`, each later call answers the same and reads nothing. Memory is taken once a packet's first byte was
+    /// read.
     pub fn next<S: Source>(
         &mut self,
         alloc: Global,
@@ -84,53 +84,10 @@ impl Reader {
         if self.ended {
             return Ok(None);
         }
-        match self.session {
-            None => self.begin(source),
-            Some(session) => self.go_on(alloc, source, &session),
-        }
-    }
-
-    // Reads the first header.
-    fn begin<S: Source>(&mut self, source: &mut S) -> Result<Option<Item>, ReadEnd>
-        requires open { IsOpen self.old }
-        requires session { self.old.session ≡ None }
-        ensures { Nexts
-            (S.state source.old)
-            (S.state source.new)
-            self.old self.new result }
-    {
-        match take_first(source) {
-            Ok(session) => {
-                self.session = Some(session);
-                self.records = 1;
-                self.offset = 32;
-                Ok(Some(Item::Header { at: 0 }))
-            }
-            Err(refusal) => {
-                self.refused = Some(refusal);
-                Err(refusal)
-            }
-        }
-    }
-
-    // Reads a record after the first.
-    fn go_on<S: Source>(
-        &mut self,
-        alloc: Global,
-        source: &mut S,
-        session: &Session,
-    ) -> Result<Option<Item>, ReadEnd>
-        requires open { IsOpen self.old }
-        requires session { self.old.session ≡ Some session.now }
-        ensures { Nexts
-            (S.state source.old)
-            (S.state source.new)
-            self.old self.new result }
-    {
-        match take_record(alloc, source, session, self.records, self.offset) {
+        match take_record(alloc, source, &self.session, self.records, self.offset) {
             Ok(Some(item)) => {
                 self.records += 1;
-                self.offset += record_size(session, &item);
+                self.offset += record_size(&self.session, &item);
                 Ok(Some(item))
             }
             Ok(None) => {

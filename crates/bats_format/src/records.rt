@@ -5,7 +5,7 @@ ghost use Rattle.bats_model.specs.PacketFile.{IsItemAt, record_of, most_records}
 ghost use Rattle.bats_model.specs.Records.{header_tag, packet_tag};
 ghost use Rattle.bats_format.specs.Taking.{most_of_record, TakesFirst, TagIs, byte_of, TakesTag, TakesBody, TakesRecord};
 
-use crate::filling::{fill, fill_part, fill_three};
+use crate::filling::{fill, fill_part};
 use crate::header::{header_bytes, read_header};
 use bats_io::Source;
 use bats_model::{Bytes, Item, Packet, ReadEnd, Session};
@@ -147,7 +147,9 @@ fn take_packet<S: Source>(
     let mut number = [0; 4];
     let mut coefs = vec![in alloc; 0; usize::from(session.m())]?;
     let mut payload = vec![in alloc; 0; usize::from(session.t())]?;
-    fill_three(source, at, &mut number, &mut coefs, &mut payload)?;
+    fill_part(source, at, &mut number)?;
+    fill_part(source, at, &mut coefs)?;
+    fill_part(source, at, &mut payload)?;
     Ok(Item::Packet {
         at,
         packet: Packet {
@@ -156,25 +158,6 @@ fn take_packet<S: Source>(
             payload: bytes_in(payload),
         },
     })
-}
-
-// Reads what follows the first byte of a record.
-fn take_body<S: Source>(
-    alloc: Global,
-    source: &mut S,
-    session: &Session,
-    at: u64,
-    tag: Tag,
-) -> Result<Item, ReadEnd>
-    ensures { TakesBody
-        (S.state source.old)
-        (S.state source.new)
-        session.now at (byte_of tag) result }
-{
-    match tag {
-        Tag::Header => take_repeat(source, session, at),
-        Tag::Packet => take_packet(alloc, source, session, at),
-    }
 }
 
 /// Reads the next record after the first ones, which is `None` at the end of the input. Memory is taken once the first
@@ -194,10 +177,8 @@ pub(crate) fn take_record<S: Source>(
 {
     match take_tag(source, records, at) {
         Ok(None) => Ok(None),
-        Ok(Some(tag)) => match take_body(alloc, source, session, at, tag) {
-            Ok(item) => Ok(Some(item)),
-            Err(end) => Err(end),
-        },
+        Ok(Some(Tag::Header)) => Ok(Some(take_repeat(source, session, at)?)),
+        Ok(Some(Tag::Packet)) => Ok(Some(take_packet(alloc, source, session, at)?)),
         Err(end) => Err(end),
     }
 }

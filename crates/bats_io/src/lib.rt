@@ -5,6 +5,7 @@
 mod failed;
 mod memory_sink;
 mod memory_source;
+mod retried;
 mod schedule;
 mod sink;
 mod source;

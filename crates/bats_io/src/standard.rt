@@ -5,10 +5,12 @@ ghost use Rattle.std.specs.Io.KnownBytes.{Keeps, ReadConsumes, WriteAppends};
 ghost use Rattle.bats_io.specs.Faults.{Rose, raised};
 ghost use Rattle.bats_io.specs.Standard.{reader_of, source_faults, writer_of, sink_faults, sink_flushed};
 
+use crate::retried::{flush_retried, read_retried, write_retried};
 use crate::{Failed, Sink, Source};
 use std::io::{Read, Write};
 
-/// A source over a reader. It counts the reader's errors, up to `u64::MAX`.
+/// A source over a reader. It counts the reader's errors, up to `u64::MAX`. A call that a signal interrupted is made
+/// again, and is an error once it was tried 65,536 times.
 #[derive(Drop)]
 pub struct StdSource<R> {
     inner: R,
@@ -43,7 +45,7 @@ impl<R: Read> Source for StdSource<R> {
         ensures passed_on { ReadConsumes (R.remaining (reader_of self.old))
             (R.remaining (reader_of self.new)) result buf.new }
     {
-        match self.inner.read(buf) {
+        match read_retried(&mut self.inner, buf) {
             Ok(n) => Ok(n),
             Err(_) => {
                 self.faults = self.faults.saturating_add(1);
@@ -53,7 +55,8 @@ impl<R: Read> Source for StdSource<R> {
     }
 }
 
-/// A sink over a writer. It counts the writer's errors, and each write that took no byte, up to `u64::MAX`.
+/// A sink over a writer. It counts the writer's errors, and each write that took no byte, up to `u64::MAX`. A call
+/// that a signal interrupted is made again, and is an error once it was tried 65,536 times.
 #[derive(Drop)]
 pub struct StdSink<W> {
     inner: W,
@@ -101,7 +104,7 @@ impl<W: Write> Sink for StdSink<W> {
         ensures passed_on { WriteAppends (W.contents (writer_of self.old))
             (W.contents (writer_of self.new)) result piece.now }
     {
-        match self.inner.write(piece) {
+        match write_retried(&mut self.inner, piece) {
             Ok(n) if n > 0 => {
                 self.flushed = false;
                 Ok(n)
@@ -127,7 +130,7 @@ impl<W: Write> Sink for StdSink<W> {
         // flush changes: a test counts the calls.
         ensures passed_on { Keeps (W.contents (writer_of self.old)) (W.contents (writer_of self.new)) }
     {
-        match self.inner.flush() {
+        match flush_retried(&mut self.inner) {
             Ok(()) => {
                 self.flushed = true;
                 Ok(())

@@ -8,7 +8,8 @@ use Rattle.bats_model.specs.declared.packet.Packet.{Packet}
 use Rattle.bats_peel.specs.OneSet.{IsSubset, HasOneInactiveList}
 use Rattle.bats_peel.proofs.SymbolSets.{with_symbols-append, added_is_in, subset-with, outside_count, fewer_outside}
 use Rattle.bats_peel.proofs.StuckSets.{leads-subset, stuck-subset, no_other_stuck, stuck_exists}
-use Rattle.bats_peel.proofs.HeldNumbers.{one_held, held_exists}
+use Rattle.bats_model.proofs.RisingNumbers.{one_held}
+use Rattle.bats_peel.proofs.HeldNumbers.{held_exists}
 
 -- ---- the first symbol outside
 

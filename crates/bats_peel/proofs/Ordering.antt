@@ -17,7 +17,7 @@ use Rattle.bats_peel.specs.declared.order.Step.{Step}
 use Rattle.bats_peel.specs.steps.Local.{AreLocals}
 use Rattle.bats_peel.specs.steps.Order.{AreSteps, IsOrder}
 use Rattle.bats_peel.specs.steps.Search.{marked, Walks, IsStill, Grows, AreCounts, IsBest}
-use Rattle.bats_peel.proofs.HeldSteps.{numbers_of, AreHeld-numbers}
+use Rattle.bats_batch.proofs.HeldNumbers.{numbers_of, AreHeld-numbers}
 use Rattle.bats_peel.proofs.InactiveLists.{AreInactive-begin, AreInactive-push}
 use Rattle.bats_peel.proofs.InactiveEntries.{entries_below, entries_once}
 use Rattle.bats_peel.proofs.SymbolSets.{outside_count}

@@ -44,7 +44,8 @@ use Rattle.bats_peel.specs.steps.Order.{AreSteps}
 use Rattle.bats_peel.specs.steps.Parts.{place_value}
 use Rattle.bats_peel.specs.steps.Work.{first_row, rank_of, place_in, is_known, is_taken, packet_column, inactive_values, given_by, StandsIn, IsWork, GivesPlaces, taken_rows, AreDegreesWithin}
 use Rattle.bats_peel.proofs.PartLemmas.{count_true-others}
-use Rattle.bats_peel.proofs.WorkLemmas.{find_symbol, length-kept_packets}
+use Rattle.bats_batch.proofs.HeldNumbers.{length-kept_packets}
+use Rattle.bats_peel.proofs.WorkLemmas.{find_symbol}
 use Rattle.bats_peel.proofs.StepLemmas.{any_at, names_at}
 
 -- ---- the steps that are left

@@ -40,7 +40,7 @@ pub range-has : (n r : ℕ) → r < n → Contains (range_with_len 0 n) r
 range-has n r h = (r, omega (arith, length-range_with_len 0 n), range-at n r r h)
 
 -- rising numbers are at least their places
-rising-at_least : (xs : List ℕ) (i : ℕ) → AllPairs (λ a b. a < b) xs → i < length xs → i ≤ get_or xs i 0
+pub rising-at_least : (xs : List ℕ) (i : ℕ) → AllPairs (λ a b. a < b) xs → i < length xs → i ≤ get_or xs i 0
 rising-at_least xs zero rise h = omega arith
 rising-at_least xs (suc i) rise h = omega (arith, rising-at_least xs i rise (omega arith), rise i (suc i) 0 (omega arith) h)
 

@@ -16,7 +16,8 @@ use Rattle.bats_peel.specs.steps.Local.{IsLocalAt, AreLocals}
 use Rattle.bats_peel.specs.steps.Fixing.{FixesAs}
 use Rattle.bats_peel.specs.steps.Search.{marked, IsTakenAt, Walks, IsStill, local_count, AreDistinct, AreCounts, GoesFirst, IsBest}
 use Rattle.bats_peel.proofs.StuckSets.{IsEnd}
-use Rattle.bats_peel.proofs.HeldSteps.{numbers_of, number_at, step_at, fixes_at, ends_of_held}
+use Rattle.bats_batch.proofs.HeldNumbers.{numbers_of, number_at}
+use Rattle.bats_peel.proofs.HeldSteps.{step_at, fixes_at, ends_of_held}
 use Rattle.bats_peel.proofs.FixingLemmas.{Fixes-local}
 use Rattle.bats_peel.proofs.Marking.{length-marked, marked-is, blank, set_of-marked}
 use Rattle.bats_peel.proofs.Counting.{hit}

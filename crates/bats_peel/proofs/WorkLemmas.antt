@@ -8,7 +8,6 @@ use Rattle.gf_rows.specs.Operation.{FitsRows}
 use Rattle.std.specs.Prelude.{if◌then◌else◌}
 use Rattle.std.proofs.lemmas.List.{length-map, length-append, get_or-map, get_or-set_same, get_or-set_other, get_or-take, take-take, get_or_append_left, length-take-le}
 use Rattle.std.proofs.lemmas.List.{get_or-append-add}
-use Rattle.std.proofs.lemmas.List.Concat.{length-flat_map}
 use Rattle.std.proofs.lemmas.List.Elements.{Contains-append_left, Contains-append_right, Contains-append_cases, Contains-get_or, All-append, All-contains, All-map}
 use Rattle.bats_model.specs.Session.{SessionData, symbols_of}
 use Rattle.bats_model.specs.Batch.{batch_of, degree_of}
@@ -19,13 +18,10 @@ use Rattle.bats_peel.specs.declared.peeled.Place.TheVariants.{Row, Column}
 use Rattle.bats_peel.specs.declared.work.Work.{Work}
 use Rattle.bats_peel.specs.steps.Parts.{part, place_value, AreValuesOf, Changes, IsBeyond}
 use Rattle.bats_peel.specs.steps.Work.{first_row, rank_of, place_in, is_known, is_taken, packet_column, inactive_values, given_by, StandsIn, IsFree, taken_rows, IsWork, GivesPlaces}
+use Rattle.bats_batch.proofs.HeldNumbers.{length-kept_packets}
 use Rattle.bats_peel.proofs.LocalLemmas.{row_count-room}
 
 -- ---- rows of batches
-
-pub length-kept_packets : (batches : List HeldBatch) → length (kept_packets batches) ≡ row_count batches
-unfolding kept_packets
-length-kept_packets batches = length-flat_map (λ (batch : HeldBatch). batch.kept) batches
 
 -- the rows of a batch come before those of a later one
 rows_before : (batches : List HeldBatch) (b c : ℕ) → b < c → c < length batches → first_row batches b + rank_of batches b ≤ first_row batches c

@@ -15,7 +15,8 @@ use Rattle.bats_model.specs.Relay.{mix_factors, payloads_of, relay_output}
 use Rattle.bats_model.specs.declared.packet.Packet.{Packet}
 use Rattle.bats_batch.specs.Basis.{IsSized}
 use Rattle.bats_relay.specs.steps.Mixing.{IsMixed}
-use Rattle.bats_relay.proofs.OutputRows.{AreRows-coefs, AreRows-payloads}
+use Rattle.bats_batch.proofs.PayloadSums.{AreRows-payloads}
+use Rattle.bats_relay.proofs.OutputRows.{AreRows-coefs}
 
 -- rows of zeros
 pub IsMixed-none : (m t : ℕ) (kept : List Packet) (factors coefs payload : List ℕ) → coefs ≡ replicate m 0 → payload ≡ replicate t 0

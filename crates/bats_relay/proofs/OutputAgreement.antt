@@ -17,7 +17,8 @@ use Rattle.bats_model.proofs.KeptSpans.{is_of, All-kept_of}
 use Rattle.bats_model.proofs.KeptAgreement.{Agrees-follows, kept-agreement}
 use Rattle.bats_batch.specs.Basis.{IsSized}
 use Rattle.bats_batch.specs.Held.{HeldData, StandsFor, kept_at}
-use Rattle.bats_relay.proofs.OutputRows.{IsSized-shape, combination-packets, length-mix_factors, mix_factors-lt, HasShape-output}
+use Rattle.bats_batch.proofs.KeptRows.{IsSized-shape, combination-packets}
+use Rattle.bats_relay.proofs.OutputRows.{length-mix_factors, mix_factors-lt, HasShape-output}
 
 -- an output follows from the kept packets: one list of factors gives its vector and its payload
 pub Follows-output : (session : SessionData) (seed : List ℕ) (batch number : ℕ) (kept : List Packet) → batch < 2 ^ 32

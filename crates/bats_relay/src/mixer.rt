@@ -1,13 +1,14 @@
 //! A relay without a rate.
-ghost use Rattle.std.specs.Prelude.{◌≡◌, ◌<◌, ◌≤◌, ◌+◌, ◌∷◌, ◌++◌, [], ℕ, List, length, IfOk, IfErr, OnOk, OnErr, MatchOption, IfSome, unwrap_or};
+ghost use Rattle.std.specs.Prelude.{◌≡◌, ◌<◌, ◌≤◌, [], ℕ, List, length, IfOk, OnErr, MatchOption, IfSome, unwrap_or};
 ghost use Rattle.std.specs.Ordering.{nat_cmp};
 ghost use Rattle.std.specs.BTreeMap.{get};
 ghost use Rattle.bats_model.specs.declared.packet.Packet.{Packet};
 ghost use Rattle.bats_model.specs.Agreement.{Agrees, AgreesWithAll};
 ghost use Rattle.bats_model.specs.PacketFile.{HasShape};
 ghost use Rattle.bats_model.specs.Relay.{relay_output};
-ghost use Rattle.bats_batch.specs.Basis.{IsTaken};
-ghost use Rattle.bats_batch.specs.Held.{StandsFor, kept_at, row_count, max_kept};
+ghost use Rattle.gf_rows.specs.Spends.{Spends};
+ghost use Rattle.bats_batch.specs.Held.{StandsFor, kept_at};
+ghost use Rattle.bats_batch.specs.Offers.{Offers, offer_cost};
 ghost use Rattle.bats_relay.specs.Mixer.{sent_of, max_outputs, HasSentOne};
 
 use crate::mixing::mixed_packet;
@@ -73,7 +74,7 @@ impl Mixer {
     }
 
     /// Offers a packet of M coefficients and T payload bytes to its batch, as `Held::offer` does. How many outputs were
-    /// made of each batch stays as it is.
+    /// made of each batch stays as it is. After an `Err` all is as before.
     pub fn offer<C: Ledger, L: Ledger>(
         &mut self,
         packet: &Packet,
@@ -82,20 +83,12 @@ impl Mixer {
     ) -> Result<Taken, HeldEnd>
         requires coefs { length packet.now.coefs ≡ self.old.held.session.m }
         requires payload { length packet.now.payload ≡ self.old.held.session.t }
-        ensures session { self.new.held.session ≡ self.old.held.session }
+        ensures offers { Offers self.old.held self.new.held packet.now result }
         ensures seed { self.new.seed ≡ self.old.seed }
         ensures sent { (batch : ℕ) → sent_of self.new batch ≡ sent_of self.old batch }
-        ensures taken { IfOk result (IsTaken (kept_at self.old.held.batches packet.now.batch) packet.now) }
-        ensures ok { OnOk result ((packets : List Packet) → StandsFor packets self.old.held
-            → StandsFor (packets ++ packet.now ∷ []) self.new.held) }
         ensures err { OnErr result (self.new ≡ self.old) }
-        ensures room { IfOk result (λ taken. taken ≡ Taken.Kept → row_count self.old.held.batches < max_kept) }
-        ensures full { IfErr result (λ e. e ≡ HeldEnd.Full → ((row_count self.old.held.batches ≡ max_kept)
-            × IsTaken (kept_at self.old.held.batches packet.now.batch) packet.now Taken.Kept)) }
-        ensures coef_steps { coef_steps.new ≤ coef_steps.old + self.old.held.session.m }
-        ensures steps { steps.new ≤ steps.old + self.old.held.session.m }
-        ensures coef_steps_rise { coef_steps.old ≤ coef_steps.new }
-        ensures steps_rise { steps.old ≤ steps.new }
+        ensures coef_steps { Spends coef_steps.old coef_steps.new (offer_cost self.old.held packet.now) }
+        ensures steps { Spends steps.old steps.new (offer_cost self.old.held packet.now) }
     {
         self.held.offer(packet, coef_steps, steps)
     }

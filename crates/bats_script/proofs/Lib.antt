@@ -1,4 +1,4 @@
-pub mod KeyBytes
+pub mod TrialKeys
 pub mod ValueLemmas
 pub mod EachLemmas
 pub mod ScriptLemmas

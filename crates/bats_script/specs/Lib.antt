@@ -1,4 +1,3 @@
-pub mod KeyPlaces
 pub mod Trial
 pub mod ScriptValues
 pub mod Script

@@ -4,7 +4,7 @@ ghost use Rattle.toml.specs.View.{view, array_view};
 ghost use Rattle.bats_script.specs.ScriptValues.{each, seed_of, seeds_of, link_of, links_of, event_of, events_of};
 ghost use Rattle.bats_script.specs.Script.{needs, IsUnlessMemory};
 
-use crate::events::Events;
+use crate::script::Events;
 use crate::script_end::{ScriptEnd, ScriptKey};
 use crate::values::{event_of, seed_of, two_numbers};
 use bats_world::{Links, Seeds};

@@ -9,10 +9,9 @@ ghost use Rattle.bats_script.specs.Script.{is_known, are_known, needs, value_at,
 ghost use Rattle.bats_script.specs.Sound.{IsSound};
 ghost use Rattle.bats_script.specs.steps.Ranges.{AreWithin};
 
-use crate::events::Events;
 use crate::lists::{events_of, links_of, seeds_of};
 use crate::parameters::{Parameters, parameters_in, session_of};
-use crate::script::Script;
+use crate::script::{Events, Script};
 use crate::script_end::{ScriptEnd, ScriptKey};
 use bats_model::Bytes;
 use bats_world::{Links, Seeds};

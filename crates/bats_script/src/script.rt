@@ -1,6 +1,8 @@
-use crate::Events;
-use bats_model::{Bytes, Session};
-use bats_world::{Links, Seeds};
+use bats_model::{Bytes, Items, Session};
+use bats_world::{Event, Links, Seeds};
+
+/// A list of events, in their order.
+pub type Events = Items<Event>;
 
 /// A network's session, file, relays and links, and what happens in it.
 #[derive(Debug, Drop)]

@@ -1,8 +1,8 @@
 ghost use Rattle.std.specs.Prelude.{◌≡◌, ◌≤◌, IfOk};
 ghost use Rattle.bats_script.specs.Trial.{trial_file, trial_file_key};
 
-use crate::key::key_bytes;
 use bats_model::Bytes;
+use bats_sampler::key_bytes;
 use std::alloc::{AllocError, Global};
 
 // The key of a trial's file.

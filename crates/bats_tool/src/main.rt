@@ -49,19 +49,6 @@ fn run_counted<R: Threads + Sync, S: Source, O: Sink, N: Sink, C: Ledger, L: Led
     run(rt, alloc, words, input, output, notes, &mut counters)
 }
 
-// Runs the program over these streams.
-fn run_over<R: Threads + Sync, S: Source, O: Sink, N: Sink>(
-    rt: &R,
-    alloc: Global,
-    words: &Vec<String>,
-    input: &mut S,
-    output: &mut O,
-    notes: &mut N,
-) -> Status {
-    let blanks = (Blank::new(1), Blank::new(1));
-    run_counted::<R, S, O, N, Brand, Brand>(rt, alloc, words, input, output, notes, blanks)
-}
-
 // The words after the program's name. Words that are no text are no command, as are no words.
 fn words_of<R: Env + AllocGlobal>(rt: &R) -> io::Result<Vec<String>> {
     match env::args(rt) {
@@ -91,7 +78,16 @@ where
     let mut input = StdSource::new(input);
     let mut output = StdSink::new(output);
     let mut notes = StdSink::new(notes);
-    Ok(run_over(rt, alloc, &words, &mut input, &mut output, &mut notes))
+    let blanks = (Blank::new(1), Blank::new(1));
+    Ok(run_counted::<_, _, _, _, Brand, Brand>(
+        rt,
+        alloc,
+        &words,
+        &mut input,
+        &mut output,
+        &mut notes,
+        blanks,
+    ))
 }
 
 fn main(rt: HostRuntime) -> ExitCode {

@@ -14,7 +14,7 @@ use std::sync::ledger::Ledger;
 use std::thread::Threads;
 use tool_records::Counters;
 use tool_replay::{replay, trial};
-use tool_run::{Finish, Status, Stop, conclude, refuse, write_bytes};
+use tool_run::{Finish, Status, Stop, conclude, refusal, write_bytes};
 use tool_sink::{check, sink};
 use tool_source::source;
 use tool_stream::{relay, show};
@@ -23,7 +23,7 @@ use tool_stream::{relay, show};
 fn usage(alloc: Global) -> Result<Finish, Stop>
     ensures { (ends : Ends) → AttemptsUncounted (reads_nothing usage_ending) ends ends result }
 {
-    Ok(refuse(alloc, Status::Usage, "bats: usage\n")?)
+    Ok(refusal(alloc, Status::Usage, "bats: usage\n")?)
 }
 
 // Does `help`: writes its text. Nothing is read.

@@ -10,10 +10,12 @@ mod relays;
 mod round_trips;
 mod scripts;
 
-use crate::run_over;
+use crate::run_counted;
 use bats_io::{MemSink, MemSource};
 use std::alloc::{AllocError, AllocGlobal, Global};
+use std::marker::Brand;
 use std::process::Abort;
+use std::sync::ledger::Blank;
 use std::test::Fail;
 use std::thread::Threads;
 use tool_run::Status;
@@ -80,7 +82,16 @@ fn make_run<R: AllocGlobal + Threads + Sync>(
     );
     let mut output = MemSink::with_room(alloc, 1_100_000, most, vec![in alloc; fails[1]]?)?;
     let mut notes = MemSink::with_room(alloc, 1_000, most, vec![in alloc; fails[2]]?)?;
-    let status = run_over(rt, alloc, &words, &mut input, &mut output, &mut notes);
+    let blanks = (Blank::new(1), Blank::new(1));
+    let status = run_counted::<_, _, _, _, Brand, Brand>(
+        rt,
+        alloc,
+        &words,
+        &mut input,
+        &mut output,
+        &mut notes,
+        blanks,
+    );
     Ok(Ran {
         status,
         output,

@@ -7,24 +7,21 @@ use Rattle.bats_model.specs.PacketFile.{HasShape}
 use Rattle.bats_model.specs.declared.packet.Packet.{Packet}
 use Rattle.bats_model.specs.declared.taken.Taken.{Taken}
 use Rattle.bats_model.specs.declared.taken.Taken.TheVariants.{Kept}
-use Rattle.bats_model.proofs.KeptSpans.{HasVector, is_new-kept, All-kept_of}
+use Rattle.bats_model.proofs.KeptSpans.{HasVector, HasVector-shape, is_new-kept, All-kept_of}
 use Rattle.bats_batch.specs.Basis.{IsTaken, IsSized}
 use Rattle.bats_batch.specs.Held.{HeldData, StandsFor, kept_at, row_count, max_kept}
 use Rattle.bats_batch.proofs.Offers.{row_count-stands}
-use Rattle.bats_relay.proofs.OutputRows.{IsSized-shape}
+use Rattle.bats_batch.proofs.KeptRows.{IsSized-shape}
 use Rattle.bats_decode.proofs.Offering.{of-new}
 use Rattle.bats_world.proofs.LinkLemmas.{and-true, and-left, and-right}
-
-HasVector-shape : (held : HeldData) (packet : Packet) → HasShape held.session packet → HasVector held.session.m packet
-HasVector-shape held packet shape = record { size = shape.coefs; bytes = shape.coef_bytes }
 
 module _ (packets : List Packet) (held : HeldData) (packet : Packet) (stands : StandsFor packets held)
     (shape : HasShape held.session packet) where
   decides : Decides (is_new packets packet) (¬ IsCombination (coefs_of (kept_of packet.batch packets)) packet.coefs)
   decides =
       is_new-kept held.session.m packets packet
-      (All-weaker (HasShape held.session) (HasVector held.session.m) (HasVector-shape held) packets stands.shapes)
-      (HasVector-shape held packet shape)
+      (All-weaker (HasShape held.session) (HasVector held.session.m) (HasVector-shape held.session) packets stands.shapes)
+      (HasVector-shape held.session packet shape)
 
   kept : IsTaken (kept_at held.batches packet.batch) packet Kept → is_new packets packet ≡ true
   kept is = decides.1 (subst (λ (ps : List Packet). IsTaken ps packet Kept) (stands.kept packet.batch) is)

@@ -11,6 +11,7 @@ use Rattle.bats_model.specs.declared.taken.Taken.TheVariants.{Kept}
 use Rattle.bats_batch.specs.Basis.{IsTaken}
 use Rattle.bats_batch.specs.Held.{kept_at, row_count, max_kept}
 use Rattle.bats_batch.specs.Held.{StandsFor as HoldsFor}
+use Rattle.bats_batch.specs.Offers.{Offers}
 use Rattle.bats_batch.specs.declared.held.HeldEnd.{HeldEnd}
 use Rattle.bats_batch.specs.declared.held.HeldEnd.TheVariants.{Full}
 use Rattle.bats_model.specs.Relay.{relay_output}
@@ -93,13 +94,9 @@ pub record Mixes (place batch : ℕ) (packet : Packet) (new old : List MixerData
 
 -- the relay at the place was given a packet
 pub record Gets (place : ℕ) (packet : Packet) (taken : Taken) (new old : List MixerData) : Type 0 where
-  pub session : (relay_at new place).held.session ≡ (relay_at old place).held.session
+  pub offers : Offers (relay_at old place).held (relay_at new place).held packet (Ok taken)
   pub seed : (relay_at new place).seed ≡ (relay_at old place).seed
   pub sent : (batch : ℕ) → sent_of (relay_at new place) batch ≡ sent_of (relay_at old place) batch
-  pub became : IsTaken (kept_at (relay_at old place).held.batches packet.batch) packet taken
-  pub ok : (packets : List Packet) → HoldsFor packets (relay_at old place).held
-      → HoldsFor (packets ++ packet ∷ []) (relay_at new place).held
-  pub room : taken ≡ Kept → row_count (relay_at old place).held.batches < max_kept
   pub others : ChangesAt place old new
 
 -- it isn't given one

@@ -4,15 +4,13 @@
 mod event;
 mod laws;
 mod link_table;
-mod links;
+mod lists;
 mod made;
 mod relays;
-mod seeds;
 mod world;
 
 pub use event::{Event, WorldEnd};
 pub use laws::{events_lead_on, honest_packets_agree};
-pub use links::Links;
+pub use lists::{Links, Seeds};
 pub use made::Made;
-pub use seeds::Seeds;
 pub use world::{MAX_POOL, World, WorldStart};

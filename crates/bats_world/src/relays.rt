@@ -1,11 +1,11 @@
 //! The relays: making them, and what is asked of one of them.
-ghost use Rattle.std.specs.Prelude.{ℕ, ◌≡◌, ◌<◌, ◌≤◌, ◌+◌, ◌∷◌, ◌++◌, [], List, map, length, IfOk, IfErr, OnOk, OnErr, MatchOption, IfSome};
+ghost use Rattle.std.specs.Prelude.{ℕ, ◌≡◌, ◌<◌, [], length, IfOk, OnErr, MatchOption, IfSome};
 ghost use Rattle.bats_model.specs.declared.packet.Packet.{Packet};
 ghost use Rattle.bats_model.specs.PacketFile.{HasShape};
 ghost use Rattle.bats_model.specs.Relay.{relay_output};
-ghost use Rattle.bats_batch.specs.Basis.{IsTaken};
-ghost use Rattle.bats_batch.specs.Held.{kept_at, row_count, max_kept};
-ghost use Rattle.bats_batch.specs.Held.{StandsFor as HoldsFor};
+ghost use Rattle.gf_rows.specs.Spends.{Spends};
+ghost use Rattle.bats_batch.specs.Held.{kept_at};
+ghost use Rattle.bats_batch.specs.Offers.{Offers, offer_cost};
 ghost use Rattle.bats_relay.specs.Mixer.{sent_of, max_outputs, HasSentOne};
 ghost use Rattle.bats_world.specs.Standing.{relay_at};
 ghost use Rattle.bats_world.specs.steps.Places.{ChangesAt};
@@ -66,22 +66,13 @@ pub(crate) fn offer<C: Ledger, L: Ledger>(
     requires within { place < length mixers.old }
     requires coefs { length packet.now.coefs ≡ (relay_at mixers.old place).held.session.m }
     requires payload { length packet.now.payload ≡ (relay_at mixers.old place).held.session.t }
-    ensures session { (relay_at mixers.new place).held.session ≡ (relay_at mixers.old place).held.session }
+    ensures offers { Offers (relay_at mixers.old place).held (relay_at mixers.new place).held packet.now result }
     ensures seed { (relay_at mixers.new place).seed ≡ (relay_at mixers.old place).seed }
     ensures sent { (batch : ℕ) → sent_of (relay_at mixers.new place) batch ≡ sent_of (relay_at mixers.old place) batch }
-    ensures taken { IfOk result (IsTaken (kept_at (relay_at mixers.old place).held.batches packet.now.batch) packet.now) }
-    ensures ok { OnOk result ((packets : List Packet) → HoldsFor packets (relay_at mixers.old place).held
-        → HoldsFor (packets ++ packet.now ∷ []) (relay_at mixers.new place).held) }
-    ensures room { IfOk result (λ taken. taken ≡ Taken.Kept
-        → row_count (relay_at mixers.old place).held.batches < max_kept) }
-    ensures full { IfErr result (λ e. e ≡ HeldEnd.Full → ((row_count (relay_at mixers.old place).held.batches ≡ max_kept)
-        × IsTaken (kept_at (relay_at mixers.old place).held.batches packet.now.batch) packet.now Taken.Kept)) }
     ensures others { ChangesAt place mixers.old mixers.new }
     ensures err { OnErr result (mixers.new ≡ mixers.old) }
-    ensures coef_steps { coef_steps.new ≤ coef_steps.old + (relay_at mixers.old place).held.session.m }
-    ensures steps { steps.new ≤ steps.old + (relay_at mixers.old place).held.session.m }
-    ensures coef_steps_rise { coef_steps.old ≤ coef_steps.new }
-    ensures steps_rise { steps.old ≤ steps.new }
+    ensures coef_steps { Spends coef_steps.old coef_steps.new (offer_cost (relay_at mixers.old place).held packet.now) }
+    ensures steps { Spends steps.old steps.new (offer_cost (relay_at mixers.old place).held packet.now) }
 {
     mixers[place].offer(packet, coef_steps, steps)
 }

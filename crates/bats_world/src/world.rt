@@ -15,9 +15,8 @@ ghost use Rattle.bats_world.specs.declared.event.Event.{Event};
 ghost use Rattle.bats_world.specs.declared.event.Event.TheVariants.{Send, Mix, Give};
 
 use crate::link_table::{is_linked, link_table};
-use crate::links::Links;
+use crate::lists::{Links, Seeds};
 use crate::relays::{mixers_of, next_of, offer};
-use crate::seeds::Seeds;
 use crate::{Event, Made, WorldEnd};
 use bats_batch::HeldEnd;
 use bats_decode::{Decoder, Solved};

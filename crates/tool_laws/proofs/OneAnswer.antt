@@ -18,7 +18,8 @@ use Rattle.tool_run.specs.Ending.{Ending}
 use Rattle.tool_sink.specs.Answers.{answer_line, answer_status}
 use Rattle.tool_sink.specs.Sink.{SinkAnswers, IsSinkEnding, answer_ending}
 use Rattle.tool_sink.specs.Check.{CheckTells, IsCheckEnding, answer_text, check_ending}
-use Rattle.tool_records.proofs.KeptEndings.{no_stop, one_held, one_stop}
+use Rattle.bats_model.proofs.RisingNumbers.{one_held}
+use Rattle.tool_records.proofs.KeptEndings.{no_stop, one_stop}
 
 -- ---- answers that are alike
 

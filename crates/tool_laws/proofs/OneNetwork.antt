@@ -13,7 +13,7 @@ use Rattle.bats_script.specs.declared.script_end.ScriptEnd.{ScriptEnd}
 use Rattle.bats_world.specs.World.{NetworkState}
 use Rattle.bats_words.specs.declared.trial_options.TrialOptions.{TrialOptions}
 use Rattle.tool_run.specs.Ending.{Ending}
-use Rattle.tool_replay.specs.Replay.{IsReplayEnding, IsOverlong, IsNoScript, Stops, StoppedAt, ReplayAnswers, PlaysTo, no_script_ending, played, played_ending, script_of_bytes, sink_packets, stopped_ending}
+use Rattle.tool_replay.specs.Replay.{IsReplayEnding, IsOverlong, IsNoScript, HasObstacle, Obstacle, ReplayAnswers, PlaysTo, no_script_ending, played, played_ending, script_of_bytes, sink_packets, obstacle_ending}
 use Rattle.tool_replay.specs.Trial.{IsTrialEnding, answer_words, sink_arrivals, trial_ending, trial_session}
 use Rattle.tool_laws.proofs.OneAnswer.{Agree, Agree-same, alike_lines, alike_outputs, alike_statuses}
 
@@ -135,18 +135,18 @@ by_cases both pool input ending other P same two (inr (inr (inl h))) (inr (inl k
     absurd (ok_and_err (script_of_bytes input) h.script k.end h.is_read k.is_read)
 by_cases both pool input ending other P same two (inr (inr (inl h))) (inr (inr (inl k))) =
     let scripts = same_script input h.script k.script h.is_read k.is_read in
-    let stopped : h.stopped ≡ k.stopped = both_err (played k.script) h.stopped k.stopped
-    (subst (λ (x : Script). played x ≡ Err h.stopped) scripts h.stops) k.stops in
-    same ending other (h.ending_is ∙ ap (λ (x : StoppedAt). stopped_ending x.number x.cause) stopped ∙ sym k.ending_is)
+    let obstacles : h.obstacle ≡ k.obstacle = both_err (played k.script) h.obstacle k.obstacle
+    (subst (λ (x : Script). played x ≡ Err h.obstacle) scripts h.is_met) k.is_met in
+    same ending other (h.ending_is ∙ ap (λ (x : Obstacle). obstacle_ending x.number x.cause) obstacles ∙ sym k.ending_is)
 by_cases both pool input ending other P same two (inr (inr (inl h))) (inr (inr (inr k))) =
-    absurd (ok_and_err (played k.script) k.state h.stopped k.plays.plays
-    (subst (λ (x : Script). played x ≡ Err h.stopped) (same_script input h.script k.script h.is_read k.plays.is_read) h.stops))
+    absurd (ok_and_err (played k.script) k.state h.obstacle k.plays.plays
+    (subst (λ (x : Script). played x ≡ Err h.obstacle) (same_script input h.script k.script h.is_read k.plays.is_read) h.is_met))
 by_cases both pool input ending other P same two (inr (inr (inr h))) (inl k) = absurd (omega (arith, h.plays.short, k.long))
 by_cases both pool input ending other P same two (inr (inr (inr h))) (inr (inl k)) =
     absurd (ok_and_err (script_of_bytes input) h.script k.end h.plays.is_read k.is_read)
 by_cases both pool input ending other P same two (inr (inr (inr h))) (inr (inr (inl k))) =
-    absurd (ok_and_err (played h.script) h.state k.stopped h.plays.plays
-    (subst (λ (x : Script). played x ≡ Err k.stopped) (same_script input k.script h.script k.is_read h.plays.is_read) k.stops))
+    absurd (ok_and_err (played h.script) h.state k.obstacle h.plays.plays
+    (subst (λ (x : Script). played x ≡ Err k.obstacle) (same_script input k.script h.script k.is_read h.plays.is_read) k.is_met))
 by_cases both pool input ending other P same two (inr (inr (inr h))) (inr (inr (inr k))) = two h k
 
 pub one_replay : (both : Bool) (input : List ℕ) (ending other : Ending) → IsReplayEnding both false input ending

@@ -7,7 +7,8 @@ use Rattle.bats_format.proofs.PacketFiles.{same_file}
 use Rattle.bats_model.specs.Kept.{AreHeld}
 use Rattle.tool_run.specs.Ending.{Ending}
 use Rattle.tool_stream.specs.Relay.{RelaySends, IsRelayEnding, output_count, relayed_ending}
-use Rattle.tool_records.proofs.KeptEndings.{no_stop, one_held, one_stop}
+use Rattle.bats_model.proofs.RisingNumbers.{one_held}
+use Rattle.tool_records.proofs.KeptEndings.{no_stop, one_stop}
 
 one_sent : (seed : List ℕ) (extra : Bool) (count : ℕ) (input : List ℕ) (ending other : Ending)
     → RelaySends seed extra count input ending → RelaySends seed extra count input other → ending ≡ other

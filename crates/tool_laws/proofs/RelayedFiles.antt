@@ -5,6 +5,7 @@ use Rattle.std.specs.List.{All, AllPairs, flat_map, range_with_len}
 use Rattle.std.proofs.lemmas.Bool.{cases_Bool, eqb-true}
 use Rattle.std.proofs.lemmas.List.{length-append}
 use Rattle.std.proofs.lemmas.List.Elements.{All-nil, All-cons, All-append, All-head, All-tail, All-map, Contains-get_or}
+use Rattle.std.proofs.lemmas.List.Filters.{length-filter_both}
 use Rattle.std.proofs.lemmas.List.FromFn.{length-map-range_with_len}
 use Rattle.std.proofs.lemmas.List.Kept.{AllPairs-from_increasing}
 use Rattle.bats_model.specs.Session.{SessionData}
@@ -84,22 +85,6 @@ are_outputs session seed rule packets numbers held =
 abbrev others_than : ℕ → List Packet → List Packet
 others_than batch packets = filter (λ packet. not (packet.batch == batch)) packets
 
--- a packet counts on one side of a test or on the other
-in_two : (b : Bool) (packet : Packet) (us vs : List Packet)
-    → length (cond b (packet ∷ us) us) + length (cond (not b) (packet ∷ vs) vs) ≡ (length us + length vs) + 1
-in_two true packet us vs = omega arith
-in_two false packet us vs = omega arith
-
-count_in_two : (batch : ℕ) (packets : List Packet)
-    → length (packets_in batch packets) + length (others_than batch packets) ≡ length packets
-count_in_two batch [] = refl
-count_in_two batch (packet ∷ packets) =
-    omega (
-      arith,
-      in_two (packet.batch == batch) packet (packets_in batch packets) (others_than batch packets),
-      count_in_two batch packets,
-    )
-
 -- packets that a test doesn't pass may be left out before it
 skip : (q : Packet → Bool) (b : Bool) (packet : Packet) (us vs : List Packet) → (b ≡ true → q packet ≡ false)
     → filter q us ≡ filter q vs → filter q (cond (not b) (packet ∷ us) us) ≡ filter q (packet ∷ vs)
@@ -127,7 +112,7 @@ few_numbers [] packets rising some = omega arith
 few_numbers (number ∷ numbers) packets rising some =
     omega (
       arith,
-      count_in_two number packets,
+      length-filter_both (λ (p : Packet). p.batch == number) (λ (p : Packet). not (p.batch == number)) (λ p. refl) packets,
       some 0 number (omega arith),
       few_numbers numbers (others_than number packets) (λ i j d below within. rising (suc i) (suc j) d (omega arith) (omega arith))
           (λ k d within. subst (λ (ps : List Packet). 0 < length ps)
@@ -221,7 +206,7 @@ sends_as_read seed extra count session list input ending small file h =
     let here = subst (λ (s : SessionData). SendsOutputs s (packets_of h.list) ending.output) same.0 own in
     subst (λ (l : List Item). SendsOutputs session (packets_of l) ending.output) same.1 here
 
-limit_not_done : statuses.Limit ≡ statuses.Done → ⊥
+pub limit_not_done : statuses.Limit ≡ statuses.Done → ⊥
 limit_not_done e = cc
 
 -- a packet file isn't refused, and an input with too many new packets isn't done

@@ -16,18 +16,16 @@ use Rattle.tool_sink.specs.Sink.{IsSinkEnding, sink_promise}
 use Rattle.bats_words.proofs.CommandRanges.{command_of-ranges}
 use Rattle.tool_source.proofs.Endings.{source_ending-too_long}
 use Rattle.tool_laws.proofs.SentPackets.{Sends}
+use Rattle.tool_laws.proofs.RelayedFiles.{limit_not_done}
 use Rattle.tool_laws.proofs.GivenBack.{IsFileOrNone, output_given_back}
 use Rattle.tool_laws.proofs.AllSymbols.{output_comes_back}
-
-limit_is_not_done : statuses.Limit ≡ statuses.Done → ⊥
-limit_is_not_done e = cc
 
 -- a file that is sent isn't too long
 not_too_long : (o : SourceOptions) (file : List ℕ) → (source_ending o file).status ≡ statuses.Done
     → symbols_of (session_for o (length file)) ≤ max_symbols
 not_too_long o file h = elim (cases_lt max_symbols (symbols_of (session_for o (length file)))) [
   | inl long ↦
-      absurd (limit_is_not_done (sym (ap (λ (x : Ending). x.status) (source_ending-too_long o file long)) ∙ h))
+      absurd (limit_not_done (sym (ap (λ (x : Ending). x.status) (source_ending-too_long o file long)) ∙ h))
   | inr short ↦ short
 ]
 

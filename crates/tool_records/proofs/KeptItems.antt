@@ -9,7 +9,7 @@ use Rattle.bats_model.specs.declared.packet.Packet.{Packet}
 use Rattle.bats_model.specs.declared.item.Item.{Item}
 use Rattle.bats_model.specs.declared.item.Item.TheVariants as items
 use Rattle.bats_model.specs.declared.taken.Taken.TheVariants.{Kept}
-use Rattle.bats_model.proofs.KeptSpans.{HasVector, is_new-kept}
+use Rattle.bats_model.proofs.KeptSpans.{HasVector, HasVector-shape, is_new-kept}
 use Rattle.bats_model.proofs.NewPackets.{if_new, kept_count-push}
 use Rattle.bats_format.proofs.JoinedFiles.{packets_of-append}
 use Rattle.bats_batch.specs.Basis.{IsTaken}
@@ -78,9 +78,6 @@ AreFew-before session list more few =
     omega (arith, few, both, kept_more [] (packets_of list) (packets_of more))
 
 -- ---- a packet too many
-
-HasVector-shape : (session : SessionData) (packet : Packet) → HasShape session packet → HasVector session.m packet
-HasVector-shape session packet shape = record { size = shape.coefs; bytes = shape.coef_bytes }
 
 -- a new packet when no more may be kept would be one too many
 pub is_too_many : (packet : Packet) (held : HeldData) (list : List Packet) → HasShape held.session packet

@@ -18,7 +18,7 @@ use Rattle.tool_run.specs.declared.stop.Stop.{Stop}
 use Rattle.tool_run.specs.declared.stop.Stop.TheVariants as stops
 use Rattle.tool_run.specs.Attempt.{Attempts, AttemptsAs, AttemptsUncounted, IsOfEnding}
 use Rattle.tool_run.specs.Ending.{Ending, HasRead, HasWorked}
-use Rattle.tool_run.specs.Promise.{Promise, IsBegun, Keeps}
+use Rattle.tool_run.specs.Promise.{Keeps}
 use Rattle.tool_run.specs.Streams.{Counters, Ends}
 use Rattle.tool_run.specs.Writes.{Writes, AppendsAsFar}
 use Rattle.tool_run.proofs.Begun.{IsBegun-whole, IsBegun-front}
@@ -26,7 +26,7 @@ use Rattle.tool_records.specs.declared.walking.Taken.{Taken}
 use Rattle.tool_records.specs.declared.walking.Taken.TheVariants as takes
 use Rattle.tool_records.specs.declared.walking.WalkEnd.TheVariants as walks
 use Rattle.tool_records.specs.Keeping.{AreFew, RefusesAfterFew, PassesLimit, StopsKeeping, kept_limit_ending, takes_few, keeping_promise}
-use Rattle.tool_records.specs.Reading.{refused_ending}
+use Rattle.tool_records.specs.Reading.{refusal_ending}
 use Rattle.tool_records.specs.ReadsRecords.{ReadsRecords}
 use Rattle.tool_records.specs.Walk.{Gives, GivenSoFar, ReadsLast, Walks, WalksToEnd, WalksToRefusal, WalksToItem, WalksToStop}
 use Rattle.tool_records.specs.steps.Came.{CameAfterFew, EndsFull}
@@ -103,7 +103,7 @@ record HasEnding (ends : List ℕ → Ending → Type 0) (start now : Ends) (end
 -- ---- what the input is
 
 -- it is refused, after few packets were kept
-pub RefusesAfterFew-walked : (start now : Ends) (end : ReadEnd) → (w : WalksToRefusal KeepsFew start now end) → RefusesAfterFew w.input (refused_ending [] end)
+pub RefusesAfterFew-walked : (start now : Ends) (end : ReadEnd) → (w : WalksToRefusal KeepsFew start now end) → RefusesAfterFew w.input (refusal_ending [] end)
 RefusesAfterFew-walked start now end w = record {
   session = w.session;
   list = w.list;
@@ -178,14 +178,14 @@ module _ (ends : List ℕ → Ending → Type 0) (start now : Ends) where
 
   -- it is refused
   pub Attempts-refused : ((input : List ℕ) (ending : Ending) → StopsKeeping input ending → ends input ending) → (end : ReadEnd)
-      (result : Result Finish Stop) → Walks KeepsFew start now (Ok (walks.Refused end)) → FinishesBy (refused_ending [] end) result
+      (result : Result Finish Stop) → Walks KeepsFew start now (Ok (walks.Refused end)) → FinishesBy (refusal_ending [] end) result
       → AttemptsUncounted (keeping_promise ends) start now result
   Attempts-refused stopping end result walked finishes =
       let w : WalksToRefusal KeepsFew start now end = walked.as_far in
-      ends_by (refused_ending [] end) result (record {
+      ends_by (refusal_ending [] end) result (record {
         input = w.input;
         told = w.told;
-        is_ending = stopping w.input (refused_ending [] end) (inl (RefusesAfterFew-walked start now end w));
+        is_ending = stopping w.input (refusal_ending [] end) (inl (RefusesAfterFew-walked start now end w));
         of_ending = w.of_input;
         no_output = refl;
         no_work = refl;

@@ -7,4 +7,3 @@ pub mod RefusedReadings
 pub mod KeptItems
 pub mod KeptWalks
 pub mod KeptEndings
-pub mod HeldNumbers

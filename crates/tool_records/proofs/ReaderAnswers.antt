@@ -1,16 +1,8 @@
 -- What the answers of a reader say.
 use Rattle.std.proofs.Common.{ℕ, ◌≡◌, ◌∙◌, List, [], ◌++◌, Option, None, Some, Ok, sym, subst}
 use Rattle.bats_io.specs.Streams.{InputState, IsRead, IsEnded}
-use Rattle.bats_model.specs.Session.{SessionData}
-use Rattle.bats_model.specs.PacketFile.{IsPacketFile}
 use Rattle.bats_model.specs.declared.item.Item.{Item}
-use Rattle.bats_format.specs.Reader.{ReaderData, HasReadAs, Nexts, GivesItem, GivesEnd}
-
-pub file_of : (s : Option SessionData) (session : SessionData) (bytes : List ℕ) (list : List Item) (reader : ReaderData) → HasReadAs s bytes list reader
-    → s ≡ Some session → IsPacketFile session list bytes
-file_of None session bytes list reader h e = cc
-file_of (Some other) session bytes list reader h e =
-    let same : other ≡ session = cc in subst (λ (x : SessionData). IsPacketFile x list bytes) same h
+use Rattle.bats_format.specs.Reader.{ReaderData, Nexts, GivesItem, GivesEnd}
 
 -- the answer of a reader, by its case
 pub item_of : {y z : InputState} {reader reader' : ReaderData} {answer : Option Item} {item : Item} → answer ≡ Some item

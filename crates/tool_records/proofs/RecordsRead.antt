@@ -8,15 +8,9 @@ use Rattle.bats_model.specs.PacketFile.{IsItemAt, record_of, most_records}
 use Rattle.bats_model.specs.Refusal.{header_size}
 use Rattle.bats_model.specs.declared.item.Item.{Item}
 use Rattle.bats_model.specs.declared.item.Item.TheVariants as items
-use Rattle.bats_format.specs.Reader.{ReaderData, HasReadAs}
 use Rattle.bats_format.specs.Taking.{HasNoRecord, room_of, ReadsWithin}
 use Rattle.bats_format.proofs.RecordLemmas.{length-header_record, length-packet_record, record_of-some}
-use Rattle.tool_records.specs.ReadsRecords.{AreRecords, StopsWithin}
-
-pub are_records : (session : Option SessionData) (bytes : List ℕ) (list : List Item) (reader : ReaderData) → HasReadAs session bytes list reader
-    → AreRecords session list bytes
-are_records None bytes list reader h = h
-are_records (Some session) bytes list reader h = h
+use Rattle.tool_records.specs.ReadsRecords.{StopsWithin}
 
 -- bytes that are no whole record
 pub stops_within : (goes_on : SessionData → List Item → Type 0) (session : Option SessionData) (list : List Item) (front begun : List ℕ)

@@ -1,13 +1,14 @@
 -- A walk over the records of a packet file, step by step.
-use Rattle.std.proofs.Common.{ℕ, false, ◌≡◌, ◌≤◌, ◌⊎◌, List, [], ◌∷◌, ◌++◌, length, Option, None, Some, IsSome, option_map, Result, Ok, Err, refl, sym, ap, ◌∙◌, subst, inl, inr}
+use Rattle.std.proofs.Common.{ℕ, ◌≡◌, ◌≤◌, ◌⊎◌, List, [], ◌∷◌, ◌++◌, length, Option, None, Some, Result, Ok, refl, sym, ◌∙◌, subst, inl, inr}
 use Rattle.bats_io.specs.Faults.{Rose}
-use Rattle.bats_io.specs.Streams.{InputState, OutputState}
-use Rattle.bats_io.proofs.ReadLemmas.{IsRead-nothing, IsRead-after, IsTold-after, IsTold-read}
-use Rattle.bats_format.specs.Reader.{ReaderData, StandsFor, HasReadAs, IsOpen, GivesItem, GivesEnd, Refuses, RefusesAgain, RefusesAfter, RefusesInput}
-use Rattle.bats_format.specs.Taking.{ReadsWithin, HasNoRecord, room_of}
+use Rattle.bats_io.specs.Streams.{InputState, OutputState, IsRead}
+use Rattle.bats_io.proofs.ReadLemmas.{IsRead-after, IsTold-after, IsTold-read}
+use Rattle.bats_format.specs.Reader.{ReaderData, StandsFor, IsOpen, OpensAt, GivesItem, GivesEnd, Refuses, RefusesAgain, RefusesInput}
+use Rattle.bats_format.specs.Taking.{ReadsWithin, HasNoRecord, StopsFirst, FirstStops, room_of}
 use Rattle.bats_model.specs.Session.{SessionData}
-use Rattle.bats_model.specs.PacketFile.{IsItemAt, record_of}
+use Rattle.bats_model.specs.PacketFile.{IsItemAt, IsPacketFile, record_of}
 use Rattle.bats_model.specs.declared.item.Item.{Item}
+use Rattle.bats_model.specs.declared.item.Item.TheVariants as items
 use Rattle.bats_model.specs.declared.read_end.ReadEnd.{ReadEnd}
 use Rattle.bats_model.specs.declared.read_end.ReadEnd.TheVariants as ends
 use Rattle.tool_run.specs.declared.stop.Stop.{Stop}
@@ -17,134 +18,148 @@ use Rattle.tool_run.specs.Streams.{Ends}
 use Rattle.tool_records.specs.declared.walking.Taken.{Taken}
 use Rattle.tool_records.specs.declared.walking.Taken.TheVariants as takes
 use Rattle.tool_records.specs.declared.walking.WalkEnd.{WalkEnd}
-use Rattle.tool_records.specs.declared.walking.WalkEnd.TheVariants as walks
-use Rattle.tool_records.specs.Reading.{IsReading, refusal_status}
-use Rattle.tool_records.specs.Walk.{Gives, GivenSoFar, Begins, CanTake, ReadsItems, ReadingStops, WalksToEnd, WalksToRefusal, WalksToItem, WalksToStop, WalksAs, Walks}
-use Rattle.tool_records.specs.steps.Walked.{HasWalked, StepsTo, ending_of, end_after}
-use Rattle.tool_records.proofs.RecordsRead.{are_records, ReadsWithin-nothing}
-use Rattle.tool_records.proofs.ReaderAnswers.{file_of, still_ended}
+use Rattle.tool_records.specs.Reading.{refusal_status}
+use Rattle.tool_records.specs.Walk.{Gives, Begins, CanTake, ReadsItems, ReadingStops, WalksToEnd, WalksToRefusal, WalksToItem, WalksToStop, WalksAs, Walks}
+use Rattle.tool_records.specs.steps.Walked.{HasWalked, HoldsItem, ending_of}
+use Rattle.tool_records.proofs.RecordsRead.{ReadsWithin-nothing}
+use Rattle.tool_records.proofs.ReaderAnswers.{still_ended}
+
+-- the ends once the input is so, and nothing was written
+abbrev pub with_input : Ends → InputState → Ends
+with_input ends input = record { input = input; output = ends.output }
 
 -- ---- an item
 
--- what holds of every session, or of the one that is known, holds of the session of the next item
-pub given_for : (gives : Gives) (known : Option SessionData) (session : SessionData) (list : List Item) (start now : OutputState)
-    → (IsSome known → known ≡ Some session) → GivenSoFar gives known list start now → gives session list start now (Ok takes.GoesOn)
-given_for gives None session list start now same h = h session
-given_for gives (Some other) session list start now same h =
-    let is : other ≡ session = cc (same refl) in subst (λ (x : SessionData). gives x list start now (Ok takes.GoesOn)) is h
-
-pub place_of : (start y : Ends) (i : InputState) (gives : Gives) (reader reader' : ReaderData) (item : Item) (w : HasWalked gives start y reader)
-    (g : GivesItem y.input i reader reader' item) → IsItemAt g.session (length w.bytes) item
-place_of start y i gives reader reader' item w g = subst (λ (at : ℕ). IsItemAt g.session at item) w.stands.offset g.place
+-- the first, once a reader was opened
+pub HoldsItem-first : (gives : Gives) (start : InputState) (now : Ends) (reader : ReaderData) → OpensAt start now.input reader
+    → gives reader.session [] now.output now.output (Ok takes.GoesOn)
+    → HoldsItem gives (record { input = start; output = now.output }) now reader (items.Header 0)
+unfolding record_of
+HoldsItem-first gives start now reader o begins = record {
+  known = None;
+  same = λ some. cc;
+  list = [];
+  front = [];
+  records = (refl, refl);
+  place = refl;
+  stands = o.stands;
+  is_open = o.is_open;
+  read = o.taken;
+  no_fault = o.no_fault;
+  given = begins;
+}
 
 -- what the taker may rely on
-unfoldable pub CanTake-item : (gives : Gives) (start y : Ends) (i : InputState) (reader reader' : ReaderData) (item : Item) → HasWalked gives start y reader
-    → (g : GivesItem y.input i reader reader' item) → CanTake gives g.session item y.output
-CanTake-item gives start y i reader reader' item w g = record {
-  list = w.list;
+unfoldable pub CanTake-item : (gives : Gives) (start now : Ends) (reader : ReaderData) (item : Item) → HoldsItem gives start now reader item
+    → CanTake gives reader.session item now.output
+CanTake-item gives start now reader item h = record {
+  list = h.list;
   start = start.output;
-  bytes = w.bytes;
-  given = given_for gives reader.session g.session w.list start.output y.output g.same_session w.given;
-  place = place_of start y i gives reader reader' item w g;
-  file = file_of reader'.session g.session _ _ reader' (g.stands w.bytes w.list w.stands).read g.session_is;
+  bytes = h.front;
+  given = h.given;
+  place = h.place;
+  file = h.stands.read;
 }
 
--- the session that a reader shows is the one it has
-pub same_session : {A : Type 0} (shown : A → SessionData) (answer : Option A) (here : A) (known : Option SessionData) (session : SessionData)
-    → option_map shown answer ≡ known → answer ≡ Some here → known ≡ Some session → shown here ≡ session
-same_session shown answer here known session e is h =
-    let same : Some (shown here) ≡ Some session = sym (ap (option_map shown) is) ∙ e ∙ h in cc same
+-- the taker's answer to the item, for the session that the reader shows
+pub Gives-item : (gives gives' : Gives) (start y : Ends) (after : OutputState) (reader : ReaderData) (shown : SessionData) (item : Item) (taken answer : Result Taken Stop)
+    → shown ≡ reader.session → taken ≡ answer
+    → ((so_far : CanTake gives shown item y.output) → gives' shown (so_far.list ++ item ∷ []) so_far.start after taken)
+    → (h : HoldsItem gives start y reader item) → gives' reader.session (h.list ++ item ∷ []) start.output after answer
+unfolding CanTake-item
+Gives-item gives gives' start y after reader shown item taken answer same is f h =
+    let for_reader : (so_far : CanTake gives reader.session item y.output) → gives' reader.session (so_far.list ++ item ∷ []) so_far.start after taken =
+    subst (λ (s : SessionData). (so_far : CanTake gives s item y.output) → gives' s (so_far.list ++ item ∷ []) so_far.start after taken) same f in
+    subst (λ (t : Result Taken Stop). gives' reader.session (h.list ++ item ∷ []) start.output after t) is
+    (for_reader (CanTake-item gives start y reader item h))
 
--- an answer to an item of one session is one to an item of the same session
-pub for_session : (gives gives' : Gives) (one other : SessionData) (item : Item) (before after : OutputState) (taken : Result Taken Stop) → one ≡ other
-    → ((so_far : CanTake gives one item before) → gives' one (so_far.list ++ item ∷ []) so_far.start after taken)
-    → (so_far : CanTake gives other item before) → gives' other (so_far.list ++ item ∷ []) so_far.start after taken
-for_session gives gives' one other item before after taken e h =
-    subst (λ (s : SessionData). (so_far : CanTake gives s item before) → gives' s (so_far.list ++ item ∷ []) so_far.start after taken) e h
-
-to_item : (gives gives' : Gives) (start y z : Ends) (reader reader' : ReaderData) (item : Item) (taken : Result Taken Stop) (w : HasWalked gives start y reader)
-    (g : GivesItem y.input z.input reader reader' item) → gives' g.session (w.list ++ item ∷ []) start.output z.output taken
-    → WalksToItem gives' start z taken
-to_item gives gives' start y z reader reader' item taken w g h = record {
-  session = g.session;
-  list = w.list;
+-- the item at which the walk ends
+pub WalksToItem-held : (gives gives' : Gives) (start y : Ends) (after : OutputState) (reader : ReaderData) (item : Item) (taken : Result Taken Stop)
+    → (h : HoldsItem gives start y reader item) → gives' reader.session (h.list ++ item ∷ []) start.output after taken
+    → WalksToItem gives' start (record { input = y.input; output = after }) taken
+WalksToItem-held gives gives' start y after reader item taken h given = record {
+  session = reader.session;
+  list = h.list;
   item = item;
   reads = record {
-    known = reader.session;
-    same = g.same_session;
-    front = w.bytes;
-    records = are_records reader.session w.bytes w.list reader w.stands.read;
-    place = place_of start y z.input gives reader reader' item w g;
-    file = file_of reader'.session g.session _ _ reader' (g.stands w.bytes w.list w.stands).read g.session_is;
-    read = IsRead-after start.input.left y.input.left z.input.left w.bytes (record_of g.session item) w.read g.taken;
+    known = h.known;
+    same = h.same;
+    front = h.front;
+    records = h.records;
+    place = h.place;
+    file = h.stands.read;
+    read = h.read;
   };
-  no_fault = g.no_fault ∙ w.no_fault;
-  given = h;
+  no_fault = h.no_fault;
+  given = given;
 }
 
--- what a taker's answer makes of the walk
-pub StepsTo-item : (gives gives' : Gives) (start y z : Ends) (reader reader' : ReaderData) (item : Item) (taken : Result Taken Stop) (w : HasWalked gives start y reader)
-    (g : GivesItem y.input z.input reader reader' item) → gives' g.session (w.list ++ item ∷ []) start.output z.output taken
-    → StepsTo gives' start z reader' (end_after taken)
-StepsTo-item gives gives' start y z reader reader' item (Ok takes.GoesOn) w g h = record {
-  as_far = record {
-    bytes = w.bytes ++ record_of g.session item;
-    list = w.list ++ item ∷ [];
-    stands = g.stands w.bytes w.list w.stands;
-    is_open = g.is_open;
-    read = IsRead-after start.input.left y.input.left z.input.left w.bytes (record_of g.session item) w.read g.taken;
-    no_fault = g.no_fault ∙ w.no_fault;
-    given = subst (λ (s : Option SessionData). GivenSoFar gives' s (w.list ++ item ∷ []) start.output z.output) (sym g.session_is) h;
-  };
+-- it was taken
+pub HasWalked-item : (gives gives' : Gives) (start y : Ends) (after : OutputState) (reader : ReaderData) (item : Item)
+    → (h : HoldsItem gives start y reader item) → gives' reader.session (h.list ++ item ∷ []) start.output after (Ok takes.GoesOn)
+    → HasWalked gives' start (record { input = y.input; output = after }) reader
+HasWalked-item gives gives' start y after reader item h given = record {
+  bytes = h.front ++ record_of reader.session item;
+  list = h.list ++ item ∷ [];
+  stands = h.stands;
+  is_open = h.is_open;
+  read = h.read;
+  no_fault = h.no_fault;
+  given = given;
 }
-StepsTo-item gives gives' start y z reader reader' item (Ok takes.Halts) w g h =
-    record { as_far = to_item gives gives' start y z reader reader' item (Ok takes.Halts) w g h }
-StepsTo-item gives gives' start y z reader reader' item (Err stop) w g h =
-    record { as_far = inl (to_item gives gives' start y z reader reader' item (Err stop) w g h) }
+
+-- the next was read
+pub HoldsItem-next : (gives : Gives) (start y : Ends) (z : InputState) (reader reader' : ReaderData) (item : Item) → HasWalked gives start y reader
+    → GivesItem y.input z reader reader' item → HoldsItem gives start (with_input y z) reader' item
+HoldsItem-next gives start y z reader reader' item w g =
+    let same : reader.session ≡ reader'.session = sym g.same_session in
+    record {
+      known = Some reader'.session;
+      same = λ some. refl;
+      list = w.list;
+      front = w.bytes;
+      records = subst (λ (s : SessionData). IsPacketFile s w.list w.bytes) same w.stands.read;
+      place = subst (λ (s : SessionData). IsItemAt s (length w.bytes) item) same
+          (subst (λ (at : ℕ). IsItemAt reader.session at item) w.stands.offset g.place);
+      stands = subst (λ (s : SessionData). StandsFor (w.bytes ++ record_of s item) (w.list ++ item ∷ []) reader') same (g.stands w.bytes w.list w.stands);
+      is_open = g.is_open;
+      read = subst (λ (s : SessionData). IsRead start.input.left z.left (w.bytes ++ record_of s item)) same
+          (IsRead-after start.input.left y.input.left z.left w.bytes (record_of reader.session item) w.read g.taken);
+      no_fault = g.no_fault ∙ w.no_fault;
+      given = subst (λ (s : SessionData). gives s w.list start.output y.output (Ok takes.GoesOn)) same w.given;
+    }
 
 -- ---- the end of the input
 
 -- the records so far, and then no whole one
 reads_items : (gives : Gives) (start y : Ends) (left : Option (List ℕ)) (reader : ReaderData) (w : HasWalked gives start y reader)
-    → ReadsWithin reader.session reader.records reader.offset y.input.left left [] → ReadsItems reader.session w.list start.input.left left
+    → ReadsWithin (Some reader.session) reader.records reader.offset y.input.left left [] → ReadsItems (Some reader.session) w.list start.input.left left
 reads_items gives start y left reader w q = record {
   front = w.bytes;
   begun = q.bytes;
-  records = are_records reader.session w.bytes w.list reader w.stands.read;
+  records = w.stands.read;
   read = IsRead-after start.input.left y.input.left left w.bytes q.bytes w.read q.read;
-  within = subst (λ (count : ℕ). length q.bytes ≤ room_of reader.session count q.bytes) w.stands.records q.within;
-  none = subst (λ (at : ℕ). HasNoRecord reader.session at q.bytes) w.stands.offset q.none;
+  within = subst (λ (count : ℕ). length q.bytes ≤ room_of (Some reader.session) count q.bytes) w.stands.records q.within;
+  none = subst (λ (at : ℕ). HasNoRecord (Some reader.session) at q.bytes) w.stands.offset q.none;
 }
-
--- the ends once the input is so, and nothing was written
-abbrev with_input : Ends → InputState → Ends
-with_input ends input = record { input = input; output = ends.output }
-
-to_end : (gives : Gives) (start y : Ends) (z : InputState) (reader reader' : ReaderData) (known : Option SessionData) (w : HasWalked gives start y reader)
-    → GivesEnd y.input z reader reader' → reader.session ≡ known → IsSome known → WalksToEnd gives start (with_input y z)
-to_end gives start y z reader reader' None w g e some = cc
-to_end gives start y z reader reader' (Some session) w g e some =
-    let left = g.nothing_left w.is_open.not_ended in
-    record {
-      session = session;
-      list = w.list;
-      input = w.bytes;
-      told = IsTold-read start.input.left y.input.left w.bytes w.read left.1;
-      file = file_of reader.session session w.bytes w.list reader w.stands.read e;
-      reads = subst (λ (s : Option SessionData). ReadsItems s w.list start.input.left z.left) e
-          (reads_items gives start y z.left reader w
-          (ReadsWithin-nothing reader.session reader.records reader.offset y.input.left z.left g.nothing_read));
-      end = still_ended y.input.left z.left left.1 g.nothing_read;
-      no_fault = g.no_fault ∙ w.no_fault;
-      given = subst (λ (s : Option SessionData). GivenSoFar gives s w.list start.output y.output) e w.given;
-    }
 
 -- the input has ended
-pub StepsTo-end : (gives : Gives) (start y : Ends) (z : InputState) (reader reader' : ReaderData) → HasWalked gives start y reader
-    → GivesEnd y.input z reader reader' → StepsTo gives start (with_input y z) reader' (Some (Ok walks.Whole))
-StepsTo-end gives start y z reader reader' w g = record {
-  as_far = to_end gives start y z reader reader' reader.session w g refl (g.nothing_left w.is_open.not_ended).0;
-}
+pub WalksToEnd-ended : (gives : Gives) (start y : Ends) (z : InputState) (reader reader' : ReaderData) → HasWalked gives start y reader
+    → GivesEnd y.input z reader reader' → WalksToEnd gives start (with_input y z)
+WalksToEnd-ended gives start y z reader reader' w g =
+    let left = g.nothing_left w.is_open.not_ended in
+    record {
+      session = reader.session;
+      list = w.list;
+      input = w.bytes;
+      told = IsTold-read start.input.left y.input.left w.bytes w.read left;
+      file = w.stands.read;
+      reads = reads_items gives start y z.left reader w
+          (ReadsWithin-nothing (Some reader.session) reader.records reader.offset y.input.left z.left g.nothing_read);
+      end = still_ended y.input.left z.left left g.nothing_read;
+      no_fault = g.no_fault ∙ w.no_fault;
+      given = w.given;
+    }
 
 -- ---- the input is not read any further
 
@@ -153,19 +168,14 @@ or_new : {X : Type 0} {y z : InputState} {reader reader' : ReaderData} {end : Re
 or_new o (inl r) = cc (o.not_refused, r.refused)
 or_new o (inr x) = x
 
-refused_reading : (known : Option SessionData) (bytes left : List ℕ) (list : List Item) (reader : ReaderData) (end : ReadEnd) → HasReadAs known bytes list reader
-    → RefusesAfter known list (bytes ++ left) end → IsReading (bytes ++ left) known list (Some end)
-refused_reading None bytes left list reader end h r = (h.1, r)
-refused_reading (Some session) bytes left list reader end h r = r
-
 to_refusal : (gives : Gives) (start y : Ends) (z : InputState) (reader reader' : ReaderData) (end : ReadEnd) → HasWalked gives start y reader
     → RefusesInput y.input z reader reader' end → IsOfEnding (refusal_status end) → WalksToRefusal gives start (with_input y z) end
 to_refusal gives start y z reader reader' end w r of_input = record {
-  session = reader.session;
+  session = Some reader.session;
   list = w.list;
   input = w.bytes ++ r.left;
   told = IsTold-after start.input.left y.input.left w.bytes r.left w.read r.told;
-  reading = refused_reading reader.session w.bytes r.left w.list reader end w.stands.read (r.is_refused w.bytes w.list w.stands);
+  reading = r.is_refused w.bytes w.list w.stands;
   of_input = of_input;
   reads = reads_items gives start y z.left reader w r.read;
   no_fault = r.no_fault ∙ w.no_fault;
@@ -173,10 +183,10 @@ to_refusal gives start y z reader reader' end w r of_input = record {
 }
 
 to_stop : (gives : Gives) (start y : Ends) (z : InputState) (reader : ReaderData) (stop : Stop) → HasWalked gives start y reader
-    → ReadsWithin reader.session reader.records reader.offset y.input.left z.left [] → ReadingStops stop start.input.faults z.faults
+    → ReadsWithin (Some reader.session) reader.records reader.offset y.input.left z.left [] → ReadingStops stop start.input.faults z.faults
     → WalksToStop gives start (with_input y z) stop
 to_stop gives start y z reader stop w q faults = record {
-  session = reader.session;
+  session = Some reader.session;
   list = w.list;
   reads = reads_items gives start y z.left reader w q;
   faults = faults;
@@ -203,32 +213,58 @@ refused_as gives start y z reader reader' ends.TooManyRecords w r =
     to_refusal gives start y z reader reader' ends.TooManyRecords w (or_new w.is_open r) tt
 
 -- the reading of the next record ended so
-pub StepsTo-refused : (gives : Gives) (start y : Ends) (z : InputState) (reader reader' : ReaderData) (end : ReadEnd) → HasWalked gives start y reader
-    → Refuses y.input z reader reader' end → StepsTo gives start (with_input y z) reader' (Some (ending_of end))
-StepsTo-refused gives start y z reader reader' end w r = record { as_far = refused_as gives start y z reader reader' end w r }
+pub Walks-refused : (gives : Gives) (start y : Ends) (z : InputState) (reader reader' : ReaderData) (end : ReadEnd) (result : Result WalkEnd Stop)
+    → result ≡ ending_of end → HasWalked gives start y reader → Refuses y.input z reader reader' end → Walks gives start (with_input y z) result
+Walks-refused gives start y z reader reader' end result e w r =
+    subst (λ (answer : Result WalkEnd Stop). Walks gives start (with_input y z) answer) (sym e)
+    (record { as_far = refused_as gives start y z reader reader' end w r })
 
--- ---- from the first to the last
+-- ---- no header was read
 
--- nothing was read yet
-pub HasWalked-fresh : (gives : Gives) (start : Ends) (reader : ReaderData) → StandsFor [] [] reader
-    → reader ≡ record { session = None; records = 0; offset = 0; ended = false; refused = None }
-    → Begins gives start.output → HasWalked gives start start reader
-HasWalked-fresh gives start reader stands fresh begins = record {
-  bytes = [];
-  list = [];
-  stands = stands;
-  is_open = record {
-    not_ended = ap (λ (r : ReaderData). r.ended) fresh;
-    not_refused = ap (λ (r : ReaderData). r.refused) fresh;
-  };
-  read = IsRead-nothing start.input.left;
-  no_fault = refl;
-  given = subst (λ (s : Option SessionData). GivenSoFar gives s [] start.output start.output)
-      (sym (ap (λ (r : ReaderData). r.session) fresh)) begins;
+unopened_items : (start : InputState) (left : Option (List ℕ)) → ReadsWithin None 0 0 start.left left [] → ReadsItems None [] start.left left
+unopened_items start left q = record {
+  front = [];
+  begun = q.bytes;
+  records = (refl, refl);
+  read = q.read;
+  within = q.within;
+  none = q.none;
 }
 
--- the step that ends the walk
-pub Walks-from_step : (gives : Gives) (start now : Ends) (reader : ReaderData) (answer : Option (Result WalkEnd Stop)) (result : Result WalkEnd Stop)
-    → answer ≡ Some result → StepsTo gives start now reader answer → Walks gives start now result
-Walks-from_step gives start now reader answer result e s =
-    record { as_far = (subst (λ (a : Option (Result WalkEnd Stop)). StepsTo gives start now reader a) e s).as_far }
+unopened_refusal : (gives : Gives) (start : Ends) (z : InputState) (end : ReadEnd) → Begins gives start.output → StopsFirst start.input z [] end
+    → IsOfEnding (refusal_status end) → WalksToRefusal gives start (with_input start z) end
+unopened_refusal gives start z end begins s of_input = record {
+  session = None;
+  list = [];
+  input = s.left;
+  told = s.told;
+  reading = (refl, s.refused);
+  of_input = of_input;
+  reads = unopened_items start.input z.left s.read;
+  no_fault = s.no_fault;
+  given = begins;
+}
+
+unopened_as : (gives : Gives) (start : Ends) (z : InputState) (end : ReadEnd) → Begins gives start.output → FirstStops start.input z [] end
+    → WalksAs gives start (with_input start z) (ending_of end)
+unopened_as gives start z ends.Memory begins s = absurd s
+unopened_as gives start z ends.ReadFault begins s = inr (record {
+  session = None;
+  list = [];
+  reads = unopened_items start.input z.left s.read;
+  faults = s.fault;
+  given = begins;
+})
+unopened_as gives start z ends.NoHeader begins s = unopened_refusal gives start z ends.NoHeader begins s tt
+unopened_as gives start z (ends.BadHeader field) begins s = unopened_refusal gives start z (ends.BadHeader field) begins s tt
+unopened_as gives start z (ends.BadTag at byte) begins s = unopened_refusal gives start z (ends.BadTag at byte) begins s tt
+unopened_as gives start z (ends.OtherSession at) begins s = unopened_refusal gives start z (ends.OtherSession at) begins s tt
+unopened_as gives start z (ends.Truncated at) begins s = unopened_refusal gives start z (ends.Truncated at) begins s tt
+unopened_as gives start z ends.TooManyRecords begins s = unopened_refusal gives start z ends.TooManyRecords begins s tt
+
+-- no item was given, and nothing was written
+pub Walks-unopened : (gives : Gives) (start : Ends) (z : InputState) (end : ReadEnd) (result : Result WalkEnd Stop) → result ≡ ending_of end
+    → Begins gives start.output → FirstStops start.input z [] end → Walks gives start (with_input start z) result
+Walks-unopened gives start z end result e begins s =
+    subst (λ (answer : Result WalkEnd Stop). Walks gives start (with_input start z) answer) (sym e)
+    (record { as_far = unopened_as gives start z end begins s })

@@ -13,7 +13,7 @@ use Rattle.bats_batch.specs.Held.{max_kept}
 use Rattle.tool_run.specs.declared.status.Status.TheVariants as statuses
 use Rattle.tool_run.specs.Ending.{Ending, refusal, in_part}
 use Rattle.tool_run.specs.Promise.{Promise, IsBegun}
-use Rattle.tool_records.specs.Reading.{IsReading, refused_ending}
+use Rattle.tool_records.specs.Reading.{IsReading, refusal_ending}
 use Rattle.tool_records.specs.ReadsRecords.{ReadsRecords}
 
 -- no more of the packets among the items are kept than may be
@@ -28,7 +28,7 @@ pub record RefusesAfterFew (input : List ℕ) (ending : Ending) : Type 0 where
   pub end : ReadEnd
   pub reading : IsReading input session list (Some end)
   pub few : AreFew session list
-  pub ending_is : ending ≡ refused_ending [] end
+  pub ending_is : ending ≡ refusal_ending [] end
 
 -- the ending on an input of whose packets more are new than may be kept
 abbrev pub kept_limit_ending : Ending

@@ -57,5 +57,5 @@ refusal_status ends.TooManyRecords = statuses.Limit
 refusal_status _ = statuses.Input
 
 -- how a run ends whose input is refused, after this output
-abbrev pub refused_ending : List ℕ → ReadEnd → Ending
-refused_ending output end = record { status = refusal_status end; output = output; line = refusal_line end; reach = in_part; work = None }
+abbrev pub refusal_ending : List ℕ → ReadEnd → Ending
+refusal_ending output end = record { status = refusal_status end; output = output; line = refusal_line end; reach = in_part; work = None }

@@ -9,5 +9,5 @@ mod walking;
 
 pub use counters::Counters;
 pub use records::{write_header, write_packet};
-pub use refusals::refused;
+pub use refusals::input_refusal;
 pub use walking::{Taken, Taker, WalkEnd, walk};

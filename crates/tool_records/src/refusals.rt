@@ -6,7 +6,7 @@ ghost use Rattle.tool_records.specs.Reading.{field_word, tag_word, place_line, r
 
 use bats_model::{HeaderField, ReadEnd};
 use std::alloc::{AllocError, Global};
-use tool_run::{Finish, Status, refuse};
+use tool_run::{Finish, Status, refusal};
 
 // The word of a header's field.
 fn field_text(field: HeaderField) -> &'static str
@@ -40,7 +40,7 @@ fn tag_reason(alloc: Global, byte: u8) -> Result<String, AllocError>
 }
 
 // How a run ends whose input is refused at this offset for this reason.
-fn refused_at(alloc: Global, at: u64, reason: &str) -> Result<Finish, AllocError>
+fn refusal_at(alloc: Global, at: u64, reason: &str) -> Result<Finish, AllocError>
     ensures status { IfOk result (λ finish. finish.status ≡ statuses.Input) }
     ensures line { IfOk result (λ finish. string_bytes finish.line ≡ place_line at reason.now) }
 {
@@ -52,18 +52,18 @@ fn refused_at(alloc: Global, at: u64, reason: &str) -> Result<Finish, AllocError
 }
 
 /// How a run ends whose input is refused so, as a walk tells it.
-pub fn refused(alloc: Global, end: ReadEnd) -> Result<Finish, AllocError>
+pub fn input_refusal(alloc: Global, end: ReadEnd) -> Result<Finish, AllocError>
     requires { IsOfEnding (refusal_status end) }
     ensures status { IfOk result (λ finish. finish.status ≡ refusal_status end) }
     ensures line { IfOk result (λ finish. string_bytes finish.line ≡ refusal_line end) }
 {
     match end {
-        ReadEnd::NoHeader => refused_at(alloc, 0, "no-header"),
-        ReadEnd::BadHeader { field } => refused_at(alloc, 0, field_reason(alloc, field)?.as_str()),
-        ReadEnd::BadTag { at, byte } => refused_at(alloc, at, tag_reason(alloc, byte)?.as_str()),
-        ReadEnd::OtherSession { at } => refused_at(alloc, at, "other-session"),
-        ReadEnd::Truncated { at } => refused_at(alloc, at, "truncated"),
-        ReadEnd::TooManyRecords => refuse(alloc, Status::Limit, "bats: limit records\n"),
+        ReadEnd::NoHeader => refusal_at(alloc, 0, "no-header"),
+        ReadEnd::BadHeader { field } => refusal_at(alloc, 0, field_reason(alloc, field)?.as_str()),
+        ReadEnd::BadTag { at, byte } => refusal_at(alloc, at, tag_reason(alloc, byte)?.as_str()),
+        ReadEnd::OtherSession { at } => refusal_at(alloc, at, "other-session"),
+        ReadEnd::Truncated { at } => refusal_at(alloc, at, "truncated"),
+        ReadEnd::TooManyRecords => refusal(alloc, Status::Limit, "bats: limit records\n"),
         ReadEnd::Memory | ReadEnd::ReadFault => unreachable!(),
     }
 }

@@ -1,14 +1,14 @@
 //! The one walk over the records of a packet file, for each command that takes them one by one.
-ghost use Rattle.std.specs.Prelude.{◌≡◌, ◌≤◌, ◌+◌, ◌∷◌, ◌++◌, List, [], Ok, Some, None, Result};
-ghost use Rattle.bats_io.specs.Streams.{OutputState};
+ghost use Rattle.std.specs.Prelude.{◌≡◌, ◌∷◌, ◌++◌, List, [], Ok, Result};
+ghost use Rattle.bats_io.specs.Streams.{InputState, OutputState};
+ghost use Rattle.bats_format.specs.Reader.{OpensAt};
 ghost use Rattle.bats_model.specs.Session.{SessionData};
-ghost use Rattle.bats_model.specs.PacketFile.{most_records};
 ghost use Rattle.bats_model.specs.declared.item.Item.{Item};
-ghost use Rattle.tool_run.specs.Streams.{Ends};
 ghost use Rattle.tool_run.specs.declared.stop.Stop.{Stop};
 ghost use Rattle.tool_records.specs.declared.walking.Taken.{Taken};
+ghost use Rattle.tool_records.specs.declared.walking.Taken.TheVariants as takes;
 ghost use Rattle.tool_records.specs.Walk.{Begins, CanTake, Walks};
-ghost use Rattle.tool_records.specs.steps.Walked.{HasWalked, StepsTo, ending_of, end_after};
+ghost use Rattle.tool_records.specs.steps.Walked.{ending_of};
 
 use bats_format::Reader;
 use bats_io::{Sink, Source};
@@ -67,61 +67,39 @@ fn ending_of(end: ReadEnd) -> Result<WalkEnd, Stop>
     }
 }
 
-// How a walk ends whose taker answered so, if it does.
-fn end_after(taken: Result<Taken, Stop>) -> Option<Result<WalkEnd, Stop>>
-    ensures { result ≡ end_after taken }
-{
-    match taken {
-        Ok(Taken::GoesOn) => None,
-        Ok(Taken::Halts) => Some(Ok(WalkEnd::Halted)),
-        Err(stop) => Some(Err(stop)),
-    }
-}
-
-// Gives an item to the taker, with the session of the reader that has read it.
-fn give<O: Sink, T: Taker<K>, K>(
-    alloc: Global,
-    reader: &Reader,
-    item: Item,
-    taker: &mut T,
-    output: &mut O,
-    tools: &mut K,
-) -> Result<Taken, Stop>
-    requires { (session : SessionData) × (reader.now.session ≡ Some session) × (first : T) × (given : K)
-        × CanTake (T.gives first given taker.old tools.old) session item (O.state output.old) }
-    ensures { (session : SessionData) → reader.now.session ≡ Some session → (first : T) (given : K)
-        (so_far : CanTake (T.gives first given taker.old tools.old) session item (O.state output.old))
-        → T.gives first given taker.new tools.new session (so_far.list ++ item ∷ []) so_far.start (O.state output.new) result }
-{
-    match reader.session() {
-        Some(session) => taker.take(alloc, session, item, output, tools),
-        None => unreachable!(),
-    }
-}
-
-// Reads one record more, and gives it to the taker. The answer is how the walk ends, once it does.
-fn walk_next<S: Source, O: Sink, T: Taker<K>, K>(
+/// Goes over the records of a packet file whose first header this reader has just read: gives each item to the taker, that
+/// header first, up to the end of the input, the first record that is refused, or the item at which the taker halts, and
+/// reads no further. An `Err` tells what failed: a read, want of memory, or the taker. The output is written by the taker
+/// alone.
+fn walk_opened<S: Source, O: Sink, T: Taker<K>, K>(
     alloc: Global,
     reader: &mut Reader,
     input: &mut S,
     taker: &mut T,
     output: &mut O,
     tools: &mut K,
-) -> Option<Result<WalkEnd, Stop>>
-    requires { (first : T) × (given : K) × (start : Ends)
-        × HasWalked (T.gives first given taker.old tools.old) start
-        (record { input = S.state input.old; output = O.state output.old }) reader.old }
-    ensures records { result ≡ None → (reader.new.records ≡ reader.old.records + 1) × (reader.new.records ≤ most_records) }
-    ensures walked { (first : T) (given : K) (start : Ends)
-        → HasWalked (T.gives first given taker.old tools.old) start
-        (record { input = S.state input.old; output = O.state output.old }) reader.old
-        → StepsTo (T.gives first given taker.new tools.new) start
-        (record { input = S.state input.new; output = O.state output.new }) reader.new result }
+) -> Result<WalkEnd, Stop>
+    requires opened { (start : InputState) × OpensAt start (S.state input.old) reader.old }
+    requires begins { T.gives taker.old tools.old taker.old tools.old reader.old.session []
+        (O.state output.old) (O.state output.old) (Ok takes.GoesOn) }
+    ensures { (start : InputState) → OpensAt start (S.state input.old) reader.old
+        → Walks (T.gives taker.old tools.old taker.new tools.new)
+        (record { input = start; output = O.state output.old })
+        (record { input = S.state input.new; output = O.state output.new })
+        result }
 {
-    match reader.next(alloc, input) {
-        Ok(Some(item)) => end_after(give(alloc, reader, item, taker, output, tools)),
-        Ok(None) => Some(Ok(WalkEnd::Whole)),
-        Err(end) => Some(ending_of(end)),
+    let mut item = Item::Header { at: 0 };
+    'records: loop {
+        match taker.take(alloc, reader.session(), item, output, tools) {
+            Ok(Taken::GoesOn) => {}
+            Ok(Taken::Halts) => return Ok(WalkEnd::Halted),
+            Err(stop) => return Err(stop),
+        }
+        match reader.next(alloc, input) {
+            Ok(Some(next)) => item = next,
+            Ok(None) => return Ok(WalkEnd::Whole),
+            Err(end) => return ending_of(end),
+        }
     }
 }
 
@@ -141,10 +119,8 @@ pub fn walk<S: Source, O: Sink, T: Taker<K>, K>(
         (record { input = S.state input.new; output = O.state output.new })
         result }
 {
-    let mut reader = Reader::new();
-    'records: loop {
-        if let Some(end) = walk_next(alloc, &mut reader, input, taker, output, tools) {
-            return end;
-        }
+    match Reader::open(input) {
+        Ok(mut reader) => walk_opened(alloc, &mut reader, input, taker, output, tools),
+        Err(end) => ending_of(end),
     }
 }

@@ -1,18 +1,15 @@
 -- The events of a script, one after another.
-use Rattle.std.proofs.Common.{ℕ, ◌≡◌, ◌∙◌, ◌+◌, ◌*◌, ◌≤◌, ◌==◌, ap, subst, refl, arith, List, [], ◌∷◌, length, drop, not, ◌||◌, length-append}
-use Rattle.std.specs.Prelude.{Ok, Err, Result, Some, nat_lt, slice_get}
+use Rattle.std.proofs.Common.{ℕ, ◌≡◌, ◌∙◌, ◌+◌, ◌*◌, ◌≤◌, ap, subst, refl, arith, List, [], ◌∷◌, length, drop, length-append}
+use Rattle.std.specs.Prelude.{Ok, Err, Result, Some, slice_get}
 use Rattle.std.proofs.Math.Seq.{drop-length}
 use Rattle.std.proofs.lemmas.List.{drop_more}
 use Rattle.std.proofs.lemmas.Option.{get_or_from_slice_get, slice_get_within}
 use Rattle.bats_model.specs.Session.{SessionData}
-use Rattle.bats_model.specs.Kept.{kept_of}
-use Rattle.bats_world.specs.World.{NetworkState, IsEvent, IsReached, IsSameNetwork, after_event, has_link, is_full, made_at, max_pool, received_by, sink_of}
+use Rattle.bats_world.specs.World.{NetworkState, IsEvent, IsReached, IsSameNetwork, after_event}
 use Rattle.bats_world.specs.Standing.{StandsFor, WorldData}
 use Rattle.bats_world.specs.declared.event.Event.{Event}
-use Rattle.bats_world.specs.declared.event.Event.TheVariants.{Send, Mix, Give}
 use Rattle.bats_world.specs.declared.event.WorldEnd.{WorldEnd}
-use Rattle.bats_world.proofs.Causes.{passed, value_or}
-use Rattle.bats_world.proofs.Reaching.{IsReached-more, same-network}
+use Rattle.bats_world.proofs.Reaching.{IsReached-more, after_any, same-network}
 use Rattle.tool_replay.specs.Replay.{after_events, go_on}
 use Rattle.tool_replay.specs.steps.Playing.{HasPlayed}
 
@@ -23,23 +20,9 @@ record GivesOne (state next : NetworkState) : Type 0 where
   given : length next.given ≤ length state.given + 1
 
 gives_one : (state : NetworkState) (event : Event) (next : NetworkState) → after_event state event ≡ Ok next → GivesOne state next
-unfolding after_event
-gives_one state (Send batch column) next is =
-    let low = passed (not (nat_lt column state.session.m)) _ _ next is in
-    let room = passed (not (nat_lt (length state.pool) max_pool)) _ _ next low.1 in
-    subst (GivesOne state) (ap (value_or next) room.1) (record { given = omega arith })
-gives_one state (Mix node batch) next is =
-    let known = passed (nat_lt (sink_of state) node) _ _ next is in
-    let relay = passed (node == 0 || node == sink_of state) _ _ next known.1 in
-    let held = passed (length (kept_of batch (received_by node state.given)) == 0) _ _ next relay.1 in
-    let room = passed (not (nat_lt (length state.pool) max_pool)) _ _ next held.1 in
-    subst (GivesOne state) (ap (value_or next) room.1) (record { given = omega arith })
-gives_one state (Give place node) next is =
-    let there = passed (not (nat_lt place (length state.pool))) _ _ next is in
-    let known = passed (nat_lt (sink_of state) node) _ _ next there.1 in
-    let linked = passed (not (has_link state.links (made_at state.pool place).maker node)) _ _ next known.1 in
-    let room = passed (is_full state node (made_at state.pool place).packet) _ _ next linked.1 in
-    subst (GivesOne state) (ap (value_or next) room.1) (record { given = simp length-append (omega arith) })
+gives_one state event next is =
+    after_any (GivesOne state) state event next is (λ node packet. record { given = omega arith })
+    (λ node packet. record { given = simp length-append (omega arith) })
 
 same_after : (start state next : NetworkState) → IsSameNetwork start state → IsSameNetwork state next → IsSameNetwork start next
 same_after start state next first then = record {
@@ -107,11 +90,11 @@ module _ (start : NetworkState) (events : List Event) (i first mid : ℕ) (world
       }
 
   -- it doesn't
-  pub HasPlayed-stopped : (cause : WorldEnd) → ((state : NetworkState) → StandsFor state world → after_event state event ≡ Err cause)
+  pub HasPlayed-obstacle : (cause : WorldEnd) → ((state : NetworkState) → StandsFor state world → after_event state event ≡ Err cause)
       → after_events start 0 events ≡ Err (record { number = i; cause = cause })
-  HasPlayed-stopped cause stops =
+  HasPlayed-obstacle cause met =
       p.plays ∙ ap (after_events p.state i) (from_place events i event there)
-      ∙ step_of p.state i event (drop (i + 1) events) (Err cause) (stops p.state p.stands)
+      ∙ step_of p.state i event (drop (i + 1) events) (Err cause) (met p.state p.stands)
 
 -- all events took place
 pub HasPlayed-all : (start : NetworkState) (events : List Event) (first last : ℕ) (world : WorldData)

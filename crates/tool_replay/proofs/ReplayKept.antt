@@ -6,7 +6,7 @@ use Rattle.tool_run.specs.Promise.{IsFrontOf, Keeps}
 use Rattle.tool_run.proofs.AtOnce.{MayStopAtOnce}
 use Rattle.tool_run.proofs.Begun.{front-all, IsBegun-whole}
 use Rattle.tool_replay.specs.Replay.{IsReplayEnding, IsReplayPart, pool_output, replay_promise}
-use Rattle.tool_replay.proofs.ReplayRefusals.{IsRefused-no_script, IsRefused-stopped}
+use Rattle.tool_replay.proofs.ReplayRefusals.{IsRefused-no_script, IsRefused-obstacle}
 
 pub replay_promise-at_once : (both pool : Bool) → MayStopAtOnce (replay_promise both pool)
 replay_promise-at_once both true = record {
@@ -24,8 +24,8 @@ written_pool : (both : Bool) (input : List ℕ) (ending : Ending) → IsReplayEn
 written_pool both input ending (inl long) = inl (ap (λ (e : Ending). e.output) long.ending_is)
 written_pool both input ending (inr (inl no_script)) =
     inl (ap (λ (e : Ending). e.output) no_script.ending_is ∙ (IsRefused-no_script no_script.end).output)
-written_pool both input ending (inr (inr (inl stops))) =
-    inl (ap (λ (e : Ending). e.output) stops.ending_is ∙ (IsRefused-stopped stops.stopped.number stops.stopped.cause).output)
+written_pool both input ending (inr (inr (inl met))) =
+    inl (ap (λ (e : Ending). e.output) met.ending_is ∙ (IsRefused-obstacle met.obstacle.number met.obstacle.cause).output)
 written_pool both input ending (inr (inr (inr answers))) =
     inr (record {
       script = answers.script;

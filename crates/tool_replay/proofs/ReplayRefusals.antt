@@ -6,7 +6,7 @@ use Rattle.bats_world.specs.declared.event.WorldEnd.{WorldEnd}
 use Rattle.bats_world.specs.declared.event.WorldEnd.TheVariants as causes
 use Rattle.tool_run.specs.Attempt.{IsOfEnding}
 use Rattle.tool_run.specs.Ending.{Ending, to_end}
-use Rattle.tool_replay.specs.Replay.{no_script_ending, stopped_ending}
+use Rattle.tool_replay.specs.Replay.{no_script_ending, obstacle_ending}
 
 -- the whole input was read, nothing was written, and no work is promised
 pub record IsRefused (ending : Ending) : Type 0 where
@@ -19,16 +19,16 @@ IsRefused-no_script (ends.Key key) = record { output = refl; reach = refl; work 
 IsRefused-no_script ends.TooLong = record { output = refl; reach = refl; work = refl }
 IsRefused-no_script ends.Memory = record { output = refl; reach = refl; work = refl }
 
-pub IsRefused-stopped : (number : ℕ) (cause : WorldEnd) → IsRefused (stopped_ending number cause)
-IsRefused-stopped number causes.Memory = record { output = refl; reach = refl; work = refl }
-IsRefused-stopped number causes.NoNode = record { output = refl; reach = refl; work = refl }
-IsRefused-stopped number causes.NotARelay = record { output = refl; reach = refl; work = refl }
-IsRefused-stopped number causes.NoPacket = record { output = refl; reach = refl; work = refl }
-IsRefused-stopped number causes.NoLink = record { output = refl; reach = refl; work = refl }
-IsRefused-stopped number causes.NothingHeld = record { output = refl; reach = refl; work = refl }
-IsRefused-stopped number causes.Full = record { output = refl; reach = refl; work = refl }
-IsRefused-stopped number causes.ColumnTooLarge = record { output = refl; reach = refl; work = refl }
-IsRefused-stopped number causes.PoolFull = record { output = refl; reach = refl; work = refl }
+pub IsRefused-obstacle : (number : ℕ) (cause : WorldEnd) → IsRefused (obstacle_ending number cause)
+IsRefused-obstacle number causes.Memory = record { output = refl; reach = refl; work = refl }
+IsRefused-obstacle number causes.NoNode = record { output = refl; reach = refl; work = refl }
+IsRefused-obstacle number causes.NotARelay = record { output = refl; reach = refl; work = refl }
+IsRefused-obstacle number causes.NoPacket = record { output = refl; reach = refl; work = refl }
+IsRefused-obstacle number causes.NoLink = record { output = refl; reach = refl; work = refl }
+IsRefused-obstacle number causes.NothingHeld = record { output = refl; reach = refl; work = refl }
+IsRefused-obstacle number causes.Full = record { output = refl; reach = refl; work = refl }
+IsRefused-obstacle number causes.ColumnTooLarge = record { output = refl; reach = refl; work = refl }
+IsRefused-obstacle number causes.PoolFull = record { output = refl; reach = refl; work = refl }
 
 -- their statuses are those of endings, but where memory ran out
 
@@ -37,13 +37,13 @@ IsOfEnding-no_script (ends.Key key) other = tt
 IsOfEnding-no_script ends.TooLong other = tt
 IsOfEnding-no_script ends.Memory other = absurd (other refl)
 
-pub IsOfEnding-stopped : (number : ℕ) (cause : WorldEnd) → cause ≢ causes.Memory → IsOfEnding (stopped_ending number cause).status
-IsOfEnding-stopped number causes.Memory other = absurd (other refl)
-IsOfEnding-stopped number causes.NoNode other = tt
-IsOfEnding-stopped number causes.NotARelay other = tt
-IsOfEnding-stopped number causes.NoPacket other = tt
-IsOfEnding-stopped number causes.NoLink other = tt
-IsOfEnding-stopped number causes.NothingHeld other = tt
-IsOfEnding-stopped number causes.Full other = tt
-IsOfEnding-stopped number causes.ColumnTooLarge other = tt
-IsOfEnding-stopped number causes.PoolFull other = tt
+pub IsOfEnding-obstacle : (number : ℕ) (cause : WorldEnd) → cause ≢ causes.Memory → IsOfEnding (obstacle_ending number cause).status
+IsOfEnding-obstacle number causes.Memory other = absurd (other refl)
+IsOfEnding-obstacle number causes.NoNode other = tt
+IsOfEnding-obstacle number causes.NotARelay other = tt
+IsOfEnding-obstacle number causes.NoPacket other = tt
+IsOfEnding-obstacle number causes.NoLink other = tt
+IsOfEnding-obstacle number causes.NothingHeld other = tt
+IsOfEnding-obstacle number causes.Full other = tt
+IsOfEnding-obstacle number causes.ColumnTooLarge other = tt
+IsOfEnding-obstacle number causes.PoolFull other = tt

@@ -27,10 +27,10 @@ use Rattle.tool_run.specs.Reads.{Reads, ReadsUpTo}
 use Rattle.tool_run.specs.Streams.{Counters}
 use Rattle.tool_run.proofs.Attempts.{Attempts-exit}
 use Rattle.tool_run.proofs.Unread.{ends_of}
-use Rattle.tool_replay.specs.Replay.{IsReplayEnding, max_script, no_script_ending, played, replay_promise, script_of_bytes, stopped_ending}
+use Rattle.tool_replay.specs.Replay.{IsReplayEnding, max_script, no_script_ending, played, replay_promise, script_of_bytes, obstacle_ending}
 use Rattle.tool_replay.specs.steps.Playing.{IsScriptRead}
 use Rattle.tool_replay.proofs.ReplayKept.{replay_promise-at_once}
-use Rattle.tool_replay.proofs.ReplayRefusals.{IsOfEnding-no_script, IsOfEnding-stopped, IsRefused, IsRefused-no_script, IsRefused-stopped}
+use Rattle.tool_replay.proofs.ReplayRefusals.{IsOfEnding-no_script, IsOfEnding-obstacle, IsRefused, IsRefused-no_script, IsRefused-obstacle}
 
 -- ---- what bytes are read as
 
@@ -140,22 +140,22 @@ module _ (both pool : Bool) (a b : InputState) (x : OutputState) (c d : Counters
       status line stop
 
   -- an event of it doesn't take place
-  pub Attempts-stopped : (script : Script) (number : ℕ) (cause : WorldEnd) (result : Result Finish Stop) → IsScriptRead a b script
+  pub Attempts-obstacle : (script : Script) (number : ℕ) (cause : WorldEnd) (result : Result Finish Stop) → IsScriptRead a b script
       → (cause ≢ causes.Memory → played script ≡ Err (record { number = number; cause = cause }))
-      → IfOk result (λ finish. finish.status ≡ (stopped_ending number cause).status)
-      → IfOk result (λ finish. string_bytes finish.line ≡ (stopped_ending number cause).line)
+      → IfOk result (λ finish. finish.status ≡ (obstacle_ending number cause).status)
+      → IfOk result (λ finish. string_bytes finish.line ≡ (obstacle_ending number cause).line)
       → IfOk result (λ finish. cause ≢ causes.Memory) → IfErr result (λ stop. stop ≡ stops.Memory)
       → Attempts (replay_promise both pool) (ends_of a x) (ends_of b x) c d result
-  Attempts-stopped script number cause result q plays status line told stop =
-      refused q.bytes (stopped_ending number cause) result q.told q.read q.end q.no_fault (IsRefused-stopped number cause)
-      (IfOk-weaker result _ _ (λ finish other. IsOfEnding-stopped number cause other) told)
+  Attempts-obstacle script number cause result q plays status line told stop =
+      refused q.bytes (obstacle_ending number cause) result q.told q.read q.end q.no_fault (IsRefused-obstacle number cause)
+      (IfOk-weaker result _ _ (λ finish other. IsOfEnding-obstacle number cause other) told)
       (IfOk-weaker result _ _
       (λ finish other. inr (inr (inl (record {
         short = q.short;
         script = script;
         is_read = q.is_read;
-        stopped = record { number = number; cause = cause };
-        stops = plays other;
+        obstacle = record { number = number; cause = cause };
+        is_met = plays other;
         ending_is = refl;
       })))) told)
       status line stop

@@ -63,23 +63,23 @@ no_script_ending ends.Memory = refusal statuses.Memory (line_of stops.Memory) to
 -- ---- its events
 
 -- the first event that doesn't take place, by its number, and why
-pub record StoppedAt : Type 0 where
+pub record Obstacle : Type 0 where
   pub number : ℕ
   pub cause : WorldEnd
 
 -- what comes after an event of this number
-abbrev pub go_on : ℕ → Result NetworkState WorldEnd → (NetworkState → Result NetworkState StoppedAt) → Result NetworkState StoppedAt
+abbrev pub go_on : ℕ → Result NetworkState WorldEnd → (NetworkState → Result NetworkState Obstacle) → Result NetworkState Obstacle
 go_on number (Ok next) rest = rest next
 go_on number (Err cause) rest = Err (record { number = number; cause = cause })
 
 -- the state after events one after another, the first of which has this number
-unfoldable pub after_events : NetworkState → ℕ → List Event → Result NetworkState StoppedAt
+unfoldable pub after_events : NetworkState → ℕ → List Event → Result NetworkState Obstacle
 after_events state number [] = Ok state
 after_events state number (event ∷ events) =
     go_on number (after_event state event) (λ next. after_events next (number + 1) events)
 
 -- what a script's events lead to, numbered from 0, from the network in which nothing has happened
-abbrev pub played : Script → Result NetworkState StoppedAt
+abbrev pub played : Script → Result NetworkState Obstacle
 played script = after_events (opening script.session script.file script.relay_seeds script.links) 0 script.events
 
 -- the ending of an event that doesn't take place for a cause with this word
@@ -88,16 +88,16 @@ event_refusal number word =
     refusal statuses.Script (codes "bats: script event=" ++ (decimal number ++ (codes " " ++ (word ++ codes "\n")))) to_end
 
 -- The ending of an event that doesn't take place. Memory is no cause of `after_event`, and its status none of an ending.
-abbrev pub stopped_ending : ℕ → WorldEnd → Ending
-stopped_ending number causes.NoNode = event_refusal number (codes "no-node")
-stopped_ending number causes.NotARelay = event_refusal number (codes "not-a-relay")
-stopped_ending number causes.NoPacket = event_refusal number (codes "no-packet")
-stopped_ending number causes.NoLink = event_refusal number (codes "no-link")
-stopped_ending number causes.NothingHeld = event_refusal number (codes "nothing-held")
-stopped_ending number causes.ColumnTooLarge = event_refusal number (codes "column-too-large")
-stopped_ending number causes.Full = refusal statuses.Limit (codes "bats: limit kept\n") to_end
-stopped_ending number causes.PoolFull = refusal statuses.Limit (codes "bats: limit pool\n") to_end
-stopped_ending number causes.Memory = refusal statuses.Memory (line_of stops.Memory) to_end
+abbrev pub obstacle_ending : ℕ → WorldEnd → Ending
+obstacle_ending number causes.NoNode = event_refusal number (codes "no-node")
+obstacle_ending number causes.NotARelay = event_refusal number (codes "not-a-relay")
+obstacle_ending number causes.NoPacket = event_refusal number (codes "no-packet")
+obstacle_ending number causes.NoLink = event_refusal number (codes "no-link")
+obstacle_ending number causes.NothingHeld = event_refusal number (codes "nothing-held")
+obstacle_ending number causes.ColumnTooLarge = event_refusal number (codes "column-too-large")
+obstacle_ending number causes.Full = refusal statuses.Limit (codes "bats: limit kept\n") to_end
+obstacle_ending number causes.PoolFull = refusal statuses.Limit (codes "bats: limit pool\n") to_end
+obstacle_ending number causes.Memory = refusal statuses.Memory (line_of stops.Memory) to_end
 
 -- ---- how it ends
 
@@ -138,13 +138,13 @@ pub record IsNoScript (input : List ℕ) (ending : Ending) : Type 0 where
   pub ending_is : ending ≡ no_script_ending end
 
 -- a script with an event that doesn't take place
-pub record Stops (input : List ℕ) (ending : Ending) : Type 0 where
+pub record HasObstacle (input : List ℕ) (ending : Ending) : Type 0 where
   pub short : length input ≤ max_script
   pub script : Script
   pub is_read : script_of_bytes input ≡ Ok script
-  pub stopped : StoppedAt
-  pub stops : played script ≡ Err stopped
-  pub ending_is : ending ≡ stopped_ending stopped.number stopped.cause
+  pub obstacle : Obstacle
+  pub is_met : played script ≡ Err obstacle
+  pub ending_is : ending ≡ obstacle_ending obstacle.number obstacle.cause
 
 -- a script whose events all take place and lead to this state
 pub record PlaysTo (input : List ℕ) (script : Script) (state : NetworkState) : Type 0 where
@@ -169,7 +169,7 @@ pub record ReplayAnswers (both pool : Bool) (input : List ℕ) (ending : Ending)
 -- how `replay` ends where memory is found and no read, write or flush fails
 abbrev pub IsReplayEnding : Bool → Bool → List ℕ → Ending → Type 0
 IsReplayEnding both pool input ending =
-    IsOverlong input ending ⊎ (IsNoScript input ending ⊎ (Stops input ending ⊎ ReplayAnswers both pool input ending))
+    IsOverlong input ending ⊎ (IsNoScript input ending ⊎ (HasObstacle input ending ⊎ ReplayAnswers both pool input ending))
 
 -- ---- what it promises
 

@@ -13,8 +13,7 @@ use crate::trial_keys::loss_key;
 use bats_encoder::Encoder;
 use bats_model::{Batch, Packet, Session};
 use bats_relay::{Mixer, fixed_outputs};
-use bats_sampler::batch;
-use bats_script::key_word;
+use bats_sampler::{batch, key_word};
 use std::alloc::{AllocError, Global};
 
 /// The packets of one hop: how many were sent so far, and those of them that arrived.

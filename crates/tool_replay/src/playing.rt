@@ -42,9 +42,17 @@ pub(crate) fn world_of(
 
 // The first event that doesn't take place, by its number, and why.
 #[derive(Drop)]
-pub(crate) struct Halt {
+pub(crate) struct Obstacle {
     pub(crate) number: usize,
     pub(crate) cause: WorldEnd,
+}
+
+// The event at this place.
+fn get(events: &[Event], i: usize) -> Event
+    requires { i < length events.now }
+    ensures { slice_get events.now i ≡ Some result }
+{
+    events[i]
 }
 
 // The event at this place, whose numbers are of four bytes.
@@ -53,7 +61,7 @@ fn event_at(events: &Events, i: usize) -> Event
     ensures value { slice_get events.now i ≡ Some result }
     ensures range { IsEvent result }
 {
-    let event = events.get(i);
+    let event = get(events.as_slice(), i);
     match event {
         Event::Send { .. } => event,
         Event::Mix { .. } => event,
@@ -66,11 +74,11 @@ pub(crate) fn play<C: Ledger, L: Ledger>(
     world: &mut World,
     events: &Events,
     counters: &mut Counters<C, L>,
-) -> Result<(), Halt>
+) -> Result<(), Obstacle>
     ensures ok { OnOk result ((start : NetworkState) → StandsFor start world.old → IsReached start
         → HasPlayed start events.now (length events.now) counters.old.steps counters.new.steps world.new) }
-    ensures err { IfErr result (λ halt. halt.cause ≢ WorldEnd.Memory → (start : NetworkState) → StandsFor start world.old
-        → IsReached start → after_events start 0 events.now ≡ Err (record { number = halt.number; cause = halt.cause })) }
+    ensures err { IfErr result (λ obstacle. obstacle.cause ≢ WorldEnd.Memory → (start : NetworkState) → StandsFor start world.old
+        → IsReached start → after_events start 0 events.now ≡ Err (record { number = obstacle.number; cause = obstacle.cause })) }
     ensures few { length events.now < 2 ^ 64 }
 {
     'events: for i in 0..events.len() {
@@ -80,7 +88,7 @@ pub(crate) fn play<C: Ledger, L: Ledger>(
             &mut counters.steps,
         ) {
             Ok(()) => {}
-            Err(cause) => return Err(Halt { number: i, cause }),
+            Err(cause) => return Err(Obstacle { number: i, cause }),
         }
     }
     Ok(())

@@ -1,12 +1,12 @@
 //! How `replay` ends on a text that is no script, and at an event that doesn't take place.
 ghost use Rattle.std.specs.Prelude.{◌≡◌, ◌≢◌, ◌++◌, codes, string_bytes, IfOk, IfErr};
 ghost use Rattle.std.specs.Fmt.{decimal};
-ghost use Rattle.tool_replay.specs.Replay.{event_refusal, key_name, no_script_ending, stopped_ending};
+ghost use Rattle.tool_replay.specs.Replay.{event_refusal, key_name, no_script_ending, obstacle_ending};
 
 use bats_script::{ScriptEnd, ScriptKey};
 use bats_world::WorldEnd;
 use std::alloc::{AllocError, Global};
-use tool_run::{Finish, Status, Stop, refuse};
+use tool_run::{Finish, Status, Stop, refusal};
 
 // How the run ends whose script is too long.
 pub(crate) fn too_long(alloc: Global) -> Result<Finish, Stop>
@@ -14,7 +14,7 @@ pub(crate) fn too_long(alloc: Global) -> Result<Finish, Stop>
     ensures line { IfOk result (λ finish. string_bytes finish.line ≡ codes "bats: limit script\n") }
     ensures stop { IfErr result (λ stop. stop ≡ Stop.Memory) }
 {
-    Ok(refuse(alloc, Status::Limit, "bats: limit script\n")?)
+    Ok(refusal(alloc, Status::Limit, "bats: limit script\n")?)
 }
 
 // The name of a key in the notes line.
@@ -56,7 +56,7 @@ pub(crate) fn no_script(alloc: Global, end: ScriptEnd) -> Result<Finish, Stop>
             status: Status::Script,
             line: key_line(alloc, key_name(key))?,
         }),
-        ScriptEnd::TooLong => Ok(refuse(alloc, Status::Limit, "bats: limit symbols\n")?),
+        ScriptEnd::TooLong => Ok(refusal(alloc, Status::Limit, "bats: limit symbols\n")?),
     }
 }
 
@@ -69,7 +69,7 @@ fn event_line(alloc: Global, number: usize, word: &str) -> Result<String, AllocE
 }
 
 // How the run ends at an event that is refused for a cause with this word.
-fn refuse_event(alloc: Global, number: usize, word: &str) -> Result<Finish, Stop>
+fn event_refusal(alloc: Global, number: usize, word: &str) -> Result<Finish, Stop>
     ensures status { IfOk result (λ finish. finish.status ≡ (event_refusal number word.now).status) }
     ensures line { IfOk result (λ finish. string_bytes finish.line ≡ (event_refusal number word.now).line) }
     ensures stop { IfErr result (λ stop. stop ≡ Stop.Memory) }
@@ -81,21 +81,21 @@ fn refuse_event(alloc: Global, number: usize, word: &str) -> Result<Finish, Stop
 }
 
 // How the run ends at an event, by its number, that doesn't take place for this cause.
-pub(crate) fn halted(alloc: Global, number: usize, cause: WorldEnd) -> Result<Finish, Stop>
-    ensures status { IfOk result (λ finish. finish.status ≡ (stopped_ending number cause).status) }
-    ensures line { IfOk result (λ finish. string_bytes finish.line ≡ (stopped_ending number cause).line) }
+pub(crate) fn at_obstacle(alloc: Global, number: usize, cause: WorldEnd) -> Result<Finish, Stop>
+    ensures status { IfOk result (λ finish. finish.status ≡ (obstacle_ending number cause).status) }
+    ensures line { IfOk result (λ finish. string_bytes finish.line ≡ (obstacle_ending number cause).line) }
     ensures told { IfOk result (λ finish. cause ≢ WorldEnd.Memory) }
     ensures stop { IfErr result (λ stop. stop ≡ Stop.Memory) }
 {
     match cause {
         WorldEnd::Memory => Err(Stop::Memory),
-        WorldEnd::NoNode => refuse_event(alloc, number, "no-node"),
-        WorldEnd::NotARelay => refuse_event(alloc, number, "not-a-relay"),
-        WorldEnd::NoPacket => refuse_event(alloc, number, "no-packet"),
-        WorldEnd::NoLink => refuse_event(alloc, number, "no-link"),
-        WorldEnd::NothingHeld => refuse_event(alloc, number, "nothing-held"),
-        WorldEnd::ColumnTooLarge => refuse_event(alloc, number, "column-too-large"),
-        WorldEnd::Full => Ok(refuse(alloc, Status::Limit, "bats: limit kept\n")?),
-        WorldEnd::PoolFull => Ok(refuse(alloc, Status::Limit, "bats: limit pool\n")?),
+        WorldEnd::NoNode => event_refusal(alloc, number, "no-node"),
+        WorldEnd::NotARelay => event_refusal(alloc, number, "not-a-relay"),
+        WorldEnd::NoPacket => event_refusal(alloc, number, "no-packet"),
+        WorldEnd::NoLink => event_refusal(alloc, number, "no-link"),
+        WorldEnd::NothingHeld => event_refusal(alloc, number, "nothing-held"),
+        WorldEnd::ColumnTooLarge => event_refusal(alloc, number, "column-too-large"),
+        WorldEnd::Full => Ok(refusal(alloc, Status::Limit, "bats: limit kept\n")?),
+        WorldEnd::PoolFull => Ok(refusal(alloc, Status::Limit, "bats: limit pool\n")?),
     }
 }

@@ -10,7 +10,7 @@ ghost use Rattle.tool_replay.specs.Replay.{replay_promise};
 ghost use Rattle.tool_replay.specs.steps.Playing.{IsScriptRead, HasPlayedScript};
 
 use crate::playing::{play, world_of, write_pool};
-use crate::refusals::{halted, no_script, too_long};
+use crate::refusals::{at_obstacle, no_script, too_long};
 use bats_io::{Sink, Source};
 use bats_model::Session;
 use bats_script::{Script, read_script};
@@ -140,7 +140,7 @@ fn play_script<R: Threads + Sync, O: Sink, C: Ledger, L: Ledger>(
         Ok(()) => tell(
             rt, alloc, workers, both, pool, &session, world, output, counters,
         ),
-        Err(halt) => halted(alloc, halt.number, halt.cause),
+        Err(obstacle) => at_obstacle(alloc, obstacle.number, obstacle.cause),
     }
 }
 

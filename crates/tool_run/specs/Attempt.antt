@@ -2,7 +2,7 @@
 use Rattle.std.specs.Prelude.{◌≡◌, ℕ, List, string_bytes, Result, Ok, Err}
 use Rattle.bats_io.specs.Faults.{Rose}
 use Rattle.bats_io.specs.Sink.{Appends}
-use Rattle.bats_io.specs.Streams.{IsTold}
+use Rattle.bats_io.specs.Streams.{InputState, OutputState, IsTold}
 use Rattle.tool_run.specs.declared.finish.Finish.{Finish}
 use Rattle.tool_run.specs.declared.status.Status.{Status}
 use Rattle.tool_run.specs.declared.status.Status.TheVariants as statuses
@@ -11,7 +11,6 @@ use Rattle.tool_run.specs.declared.stop.Stop.TheVariants as stops
 use Rattle.tool_run.specs.Streams.{Counters, Ends}
 use Rattle.tool_run.specs.Ending.{Ending, HasRead, HasWorked}
 use Rattle.tool_run.specs.Promise.{Promise}
-use Rattle.tool_run.specs.Run.{WritesPart, WritesPartRead}
 
 -- a status that no failed call and no want of memory is behind
 abbrev pub IsOfEnding : Status → Type 0
@@ -19,6 +18,18 @@ IsOfEnding statuses.ReadFault = ⊥
 IsOfEnding statuses.WriteFault = ⊥
 IsOfEnding statuses.Memory = ⊥
 IsOfEnding _ = Unit {0}
+
+-- a part of the output that a run cut short may have written
+pub record WritesPart (promise : Promise) (input : List ℕ) (before after : OutputState) : Type 0 where
+  pub part : List ℕ
+  pub is_part : promise.partly input part
+  pub written : Appends before.written after.written part
+
+-- a part of the output that a run has written whose reading failed
+pub record WritesPartRead (promise : Promise) (a b : InputState) (before after : OutputState) : Type 0 where
+  pub part : List ℕ
+  pub is_part : promise.partly_read a.left b.left part
+  pub written : Appends before.written after.written part
 
 -- the whole output of a right ending was written
 pub record Completes (promise : Promise) (input : List ℕ) (before after : Ends) (given now : Counters) (finish : Finish) : Type 0 where

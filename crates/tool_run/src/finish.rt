@@ -12,7 +12,7 @@ pub struct Finish {
 }
 
 /// The end of a command that refuses its words or its input: this status and this notes line.
-pub fn refuse(alloc: Global, status: Status, line: &str) -> Result<Finish, AllocError>
+pub fn refusal(alloc: Global, status: Status, line: &str) -> Result<Finish, AllocError>
     ensures status { IfOk result (λ finish. finish.status ≡ status) }
     ensures line { IfOk result (λ finish. string_bytes finish.line ≡ line.now) }
 {

@@ -11,7 +11,7 @@ mod status;
 mod stop;
 
 pub use concluding::conclude;
-pub use finish::{Finish, refuse};
+pub use finish::{Finish, refusal};
 pub use output::write_bytes;
 pub use reading::read_file;
 pub use status::Status;

@@ -1,22 +1,17 @@
 -- The lines of held batches, made place by place, are those of their numbers.
-use Rattle.std.proofs.Common.{ℕ, ◌≡◌, ◌+◌, List, All, [], ◌∷◌, ◌++◌, length, map, flat_map, refl, sym, ap, ◌∙◌, arith}
+use Rattle.std.proofs.Common.{ℕ, ◌≡◌, ◌+◌, List, [], ◌∷◌, ◌++◌, length, flat_map, refl, sym, ap, ◌∙◌, arith}
 use Rattle.std.specs.List.{range_with_len}
-use Rattle.std.proofs.lemmas.List.Elements.{All-head, All-tail, All-from_get_or}
+use Rattle.std.proofs.lemmas.List.Elements.{All-head, All-tail}
 use Rattle.std.proofs.lemmas.List.Folds.{flat_map-map}
-use Rattle.std.proofs.lemmas.List.FromFn.{fill_by_all}
-use Rattle.bats_batch.specs.Held.{HeldData, HeldBatch, StandsFor, batch_at, no_batch}
+use Rattle.bats_batch.specs.Held.{HeldData, HeldBatch, StandsFor, batch_at}
 use Rattle.bats_model.specs.Session.{SessionData}
 use Rattle.bats_model.specs.Batch.{batch_of, degree_of}
 use Rattle.bats_model.specs.Kept.{kept_of}
 use Rattle.bats_model.specs.declared.packet.Packet.{Packet}
 use Rattle.tool_run.proofs.Ranges.{flat_map-range_more}
-use Rattle.tool_records.proofs.HeldNumbers.{numbers_of, kept_there}
+use Rattle.bats_batch.proofs.HeldNumbers.{numbers_of, by_place, KeepRight, keep_right}
 use Rattle.tool_sink.specs.Check.{batch_line}
 use Rattle.tool_sink.specs.steps.Lines.{held_lines, line_at, line_of, numbers_line}
-
--- a list, by its places
-by_place : (batches : List HeldBatch) → batches ≡ map (batch_at batches) (range_with_len 0 (length batches))
-by_place batches = fill_by_all (batch_at batches) batches (length batches) no_batch refl (λ k within. refl)
 
 -- the lines before a place
 abbrev pub lines_before : SessionData → List HeldBatch → ℕ → List ℕ
@@ -46,15 +41,6 @@ unfolding line_at
 lines_by_place session batches =
     sym (flat_map-map (line_of session) (batch_at batches) (range_with_len 0 (length batches)))
     ∙ ap (flat_map (line_of session)) (sym (by_place batches))
-
--- each batch keeps what the packets say
-abbrev KeepRight : List Packet → List HeldBatch → Type 0
-KeepRight packets batches = All (λ batch. kept_of batch.number packets ≡ batch.kept) batches
-
-keep_right : (packets : List Packet) (held : HeldData) → StandsFor packets held → KeepRight packets held.batches
-keep_right packets held stands =
-    All-from_get_or (λ batch. kept_of batch.number packets ≡ batch.kept) held.batches no_batch
-    (λ place within. sym (stands.kept (batch_at held.batches place).number) ∙ kept_there held.batches place stands.rising within)
 
 lines_of_numbers : (session : SessionData) (packets : List Packet) (batches : List HeldBatch) → KeepRight packets batches
     → flat_map (line_of session) batches ≡ flat_map (batch_line session packets) (numbers_of batches)

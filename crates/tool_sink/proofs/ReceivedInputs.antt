@@ -18,7 +18,7 @@ use Rattle.tool_records.specs.declared.walking.Taken.TheVariants as takes
 use Rattle.tool_records.specs.declared.walking.WalkEnd.{WalkEnd}
 use Rattle.tool_records.specs.declared.walking.WalkEnd.TheVariants as walks
 use Rattle.tool_records.specs.Keeping.{AreFew, StopsKeeping, kept_limit_ending}
-use Rattle.tool_records.specs.Reading.{refusal_status, refused_ending}
+use Rattle.tool_records.specs.Reading.{refusal_status, refusal_ending}
 use Rattle.tool_records.specs.Walk.{Walks, WalksToEnd}
 use Rattle.tool_records.proofs.KeptItems.{AreFew-nothing}
 use Rattle.tool_records.proofs.KeptWalks.{KeepsFew, KeepsFewAs, FinishesBy, Attempts-refused, Attempts-full, Attempts-stopped}
@@ -77,7 +77,7 @@ as_stopping input ending stops = stops
 
 module _ (intake : Option Intake) (first last : ℕ) (start now : Ends) where
   refused_so : (end : ReadEnd) (result : Result Finish Stop) → Walks (Receives intake first last) start now (Ok (walks.Refused end))
-      → FinishesBy (refused_ending [] end) result → AttemptsUncounted stopping_promise start now result
+      → FinishesBy (refusal_ending [] end) result → AttemptsUncounted stopping_promise start now result
   refused_so end result w finishes =
       Attempts-refused StopsKeeping start now as_stopping end result (kept_few intake first last start now (Ok (walks.Refused end)) w) finishes
 
@@ -86,7 +86,7 @@ module _ (intake : Option Intake) (first last : ℕ) (start now : Ends) where
   full_so result w finishes = Attempts-full StopsKeeping start now as_stopping result (kept_few intake first last start now (Ok walks.Halted) w) finishes
 
   pub ReceivesAll-refused : (end : ReadEnd) (finish : Finish) → Walks (Receives intake first last) start now (Ok (walks.Refused end))
-      → finish.status ≡ refusal_status end → string_bytes finish.line ≡ (refused_ending [] end).line
+      → finish.status ≡ refusal_status end → string_bytes finish.line ≡ (refusal_ending [] end).line
       → ReceivesAll first last start now (Ok (receptions.Ended finish))
   ReceivesAll-refused end finish w status line = ended first last start now finish (refused_so end (Ok finish) w (status, line))
 

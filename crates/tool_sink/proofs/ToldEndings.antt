@@ -28,7 +28,7 @@ use Rattle.tool_run.proofs.Writing.{Writes-same}
 use Rattle.tool_records.specs.declared.walking.WalkEnd.TheVariants as walks
 use Rattle.tool_records.specs.Keeping.{StopsKeeping, keeping_promise}
 use Rattle.tool_records.specs.Walk.{Walks, WalksToEnd}
-use Rattle.tool_records.proofs.HeldNumbers.{numbers_of, AreHeld-numbers}
+use Rattle.bats_batch.proofs.HeldNumbers.{numbers_of, AreHeld-numbers}
 use Rattle.tool_records.proofs.KeptItems.{packets_of-within}
 use Rattle.tool_records.proofs.KeptWalks.{EndsAs, Attempts-ended, Attempts-unwritten}
 use Rattle.tool_sink.specs.Answers.{answer_line, answer_status, answer_work}

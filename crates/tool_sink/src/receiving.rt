@@ -13,8 +13,8 @@ use bats_io::{Sink, Source};
 use bats_model::{Item, Packet, Session};
 use std::alloc::Global;
 use std::sync::ledger::Ledger;
-use tool_records::{Counters, Taken, Taker, WalkEnd, refused, walk};
-use tool_run::{Finish, Status, Stop, refuse};
+use tool_records::{Counters, Taken, Taker, WalkEnd, input_refusal, walk};
+use tool_run::{Finish, Status, Stop, refusal};
 
 /// What was received of a packet file: its session, and the decoder that has received the packets.
 #[derive(Drop)]
@@ -147,9 +147,9 @@ pub fn receive_all<S: Source, O: Sink, C: Ledger, L: Ledger>(
     let mut receiver = Receiver::new();
     match walk(alloc, input, &mut receiver, output, counters)? {
         WalkEnd::Whole => Ok(Reception::Whole(receiver.into_intake())),
-        WalkEnd::Refused(end) => Ok(Reception::Ended(refused(alloc, end)?)),
+        WalkEnd::Refused(end) => Ok(Reception::Ended(input_refusal(alloc, end)?)),
         WalkEnd::Halted => {
-            let finish = refuse(alloc, Status::Limit, "bats: limit kept\n")?;
+            let finish = refusal(alloc, Status::Limit, "bats: limit kept\n")?;
             Ok(Reception::Ended(finish))
         }
     }

@@ -12,8 +12,7 @@ use Rattle.tool_run.specs.declared.status.Status.TheVariants as statuses
 use Rattle.tool_run.specs.declared.stop.Stop.{Stop}
 use Rattle.tool_run.specs.declared.stop.Stop.TheVariants as stops
 use Rattle.tool_run.specs.Ending.{Ending, Reach, HasRead, HasWorked}
-use Rattle.tool_run.specs.Run.{WritesPart}
-use Rattle.tool_run.specs.Attempt.{AttemptsAs, AttemptsUncounted, IsOfEnding}
+use Rattle.tool_run.specs.Attempt.{AttemptsAs, AttemptsUncounted, IsOfEnding, WritesPart}
 use Rattle.tool_run.specs.Reads.{Reads, ReadsUpTo}
 use Rattle.tool_run.specs.Streams.{Counters}
 use Rattle.tool_run.specs.Writes.{Writes}

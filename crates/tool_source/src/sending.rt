@@ -19,7 +19,7 @@ use bats_sampler::batch;
 use bats_words::SourceOptions;
 use std::alloc::{AllocError, Global};
 use tool_records::{write_header, write_packet};
-use tool_run::{Finish, Status, Stop, read_file, refuse};
+use tool_run::{Finish, Status, Stop, read_file, refusal};
 
 // Writes the record of coded packet j of a batch.
 fn write_coded<O: Sink>(
@@ -202,7 +202,7 @@ fn too_long(alloc: Global) -> Result<Finish, Stop>
         (record { input = after; output = output })
         result }
 {
-    Ok(refuse(alloc, Status::Limit, "bats: limit symbols\n")?)
+    Ok(refusal(alloc, Status::Limit, "bats: limit symbols\n")?)
 }
 
 /// Does `source`: reads the file, and writes the packets of its batches.

@@ -27,7 +27,7 @@ use Rattle.tool_records.specs.declared.walking.WalkEnd.{WalkEnd}
 use Rattle.tool_records.specs.declared.walking.WalkEnd.TheVariants as walks
 use Rattle.tool_records.specs.Keeping.{AreFew, StopsKeeping}
 use Rattle.tool_records.specs.Walk.{Walks, WalksToEnd}
-use Rattle.tool_records.proofs.HeldNumbers.{numbers_of, AreHeld-numbers}
+use Rattle.bats_batch.proofs.HeldNumbers.{numbers_of, AreHeld-numbers}
 use Rattle.tool_records.proofs.KeptItems.{AreFew-nothing}
 use Rattle.tool_records.proofs.KeptWalks.{KeepsFew, KeepsFewAs, keeping_promise-keeps, Attempts-ended}
 use Rattle.tool_records.proofs.WalkLemmas.{Walks-map}

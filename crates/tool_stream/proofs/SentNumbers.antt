@@ -1,25 +1,21 @@
 -- What a relay sends place by place is what is sent of the numbers of the held batches.
-use Rattle.std.proofs.Common.{ℕ, ◌≡◌, ◌+◌, List, All, [], ◌∷◌, ◌++◌, length, map, flat_map, refl, sym, ap, ◌∙◌, arith}
+use Rattle.std.proofs.Common.{ℕ, ◌≡◌, ◌+◌, List, [], ◌∷◌, ◌++◌, length, map, flat_map, refl, sym, ap, ◌∙◌, arith}
 use Rattle.std.specs.Prelude.{sum_by}
 use Rattle.std.specs.List.{range_with_len}
 use Rattle.std.proofs.lemmas.List.{length-append}
 use Rattle.std.proofs.lemmas.List.Concat.{flat_map-append}
-use Rattle.std.proofs.lemmas.List.Elements.{All-head, All-tail, All-from_get_or}
+use Rattle.std.proofs.lemmas.List.Elements.{All-head, All-tail}
 use Rattle.std.proofs.lemmas.List.Folds.{flat_map-map}
-use Rattle.std.proofs.lemmas.List.FromFn.{fill_by_all, length-map-range_with_len}
+use Rattle.std.proofs.lemmas.List.FromFn.{length-map-range_with_len}
 use Rattle.std.proofs.lemmas.List.Sums.{sum_by-cons}
 use Rattle.bats_model.specs.Session.{SessionData}
 use Rattle.bats_model.specs.Kept.{kept_of}
 use Rattle.bats_model.specs.Relay.{relay_output, relay_outputs}
 use Rattle.bats_model.specs.declared.packet.Packet.{Packet}
-use Rattle.bats_batch.specs.Held.{HeldData, HeldBatch, StandsFor, batch_at, no_batch}
-use Rattle.tool_records.proofs.HeldNumbers.{numbers_of, kept_there}
+use Rattle.bats_batch.specs.Held.{HeldData, HeldBatch, StandsFor, batch_at}
+use Rattle.bats_batch.proofs.HeldNumbers.{numbers_of, by_place, KeepRight, keep_right}
 use Rattle.tool_stream.specs.Relay.{batch_outputs, sent_packets, sent_record}
 use Rattle.tool_stream.specs.steps.Sending.{batch_records, held_records, output_record, place_records, sent_count}
-
--- a list, by its places
-by_place : (batches : List HeldBatch) → batches ≡ map (batch_at batches) (range_with_len 0 (length batches))
-by_place batches = fill_by_all (batch_at batches) batches (length batches) no_batch refl (λ k within. refl)
 
 -- the records of a held batch, and how many they are
 abbrev records_in : SessionData → List ℕ → (ℕ → ℕ) → HeldBatch → List ℕ
@@ -51,10 +47,6 @@ records_of_outputs : (session : SessionData) (seed : List ℕ) (number count : �
 unfolding output_record
 records_of_outputs session seed number count kept =
     sym (flat_map-map sent_record (λ output. relay_output session seed number output kept) (range_with_len 0 count))
-
--- each batch keeps what the packets say
-abbrev KeepRight : List Packet → List HeldBatch → Type 0
-KeepRight packets batches = All (λ batch. kept_of batch.number packets ≡ batch.kept) batches
 
 outputs_of : (session : SessionData) (seed : List ℕ) (answers : ℕ → ℕ) (packets : List Packet) (batch : HeldBatch)
     → kept_of batch.number packets ≡ batch.kept
@@ -94,11 +86,6 @@ counts_sent session seed answers packets (batch ∷ batches) right =
       counts_sent session seed answers packets batches (All-tail Right batch batches right),
       length-append (batch_outputs session seed answers packets batch.number) rest,
     )
-
-keep_right : (packets : List Packet) (held : HeldData) → StandsFor packets held → KeepRight packets held.batches
-keep_right packets held stands =
-    All-from_get_or (λ batch. kept_of batch.number packets ≡ batch.kept) held.batches no_batch
-    (λ place within. sym (stands.kept (batch_at held.batches place).number) ∙ kept_there held.batches place stands.rising within)
 
 -- the records that are sent place by place are those of what is sent of these numbers
 pub held_records-sent : (session : SessionData) (seed : List ℕ) (answers : ℕ → ℕ) (packets : List Packet) (held : HeldData) → StandsFor packets held

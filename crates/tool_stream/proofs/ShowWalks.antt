@@ -13,8 +13,7 @@ use Rattle.tool_run.specs.declared.finish.Finish.{Finish}
 use Rattle.tool_run.specs.declared.status.Status.TheVariants as statuses
 use Rattle.tool_run.specs.declared.stop.Stop.{Stop}
 use Rattle.tool_run.specs.declared.stop.Stop.TheVariants as stops
-use Rattle.tool_run.specs.Attempt.{AttemptsAs, AttemptsUncounted, IsOfEnding}
-use Rattle.tool_run.specs.Run.{WritesPart}
+use Rattle.tool_run.specs.Attempt.{AttemptsAs, AttemptsUncounted, IsOfEnding, WritesPart}
 use Rattle.tool_run.specs.Streams.{Counters, Ends}
 use Rattle.tool_run.specs.Writes.{Writes, AppendsAsFar}
 use Rattle.tool_run.proofs.Writing.{Writes-after, Writes-same, Writes-nothing}
@@ -22,7 +21,7 @@ use Rattle.tool_records.specs.declared.walking.Taken.{Taken}
 use Rattle.tool_records.specs.declared.walking.Taken.TheVariants as takes
 use Rattle.tool_records.specs.declared.walking.WalkEnd.{WalkEnd}
 use Rattle.tool_records.specs.declared.walking.WalkEnd.TheVariants as walks
-use Rattle.tool_records.specs.Reading.{refusal_status, refusal_line, refused_ending}
+use Rattle.tool_records.specs.Reading.{refusal_status, refusal_line, refusal_ending}
 use Rattle.tool_records.specs.ReadsRecords.{AreRecords, ReadsRecords}
 use Rattle.tool_records.specs.Walk.{GivenSoFar, Walks, WalksToEnd, WalksToRefusal, WalksToItem, WalksToStop}
 use Rattle.tool_records.proofs.WalksRead.{told_items, told_last, any_session, ReadsRecords-items, ReadsRecords-item}
@@ -210,7 +209,7 @@ Attempts-refused h p start now end finish w status line =
       told = q.told;
       read = ReadsRecords-items takes_all q.session q.list start.input.left now.input.left (all_taken q.session q.list) q.reads;
       as_far = record {
-        ending = refused_ending (lines_read q.session q.list) end;
+        ending = refusal_ending (lines_read q.session q.list) end;
         is_ending = record { session = q.session; list = q.list; end = Some end; reading = q.reading; ending_is = refl };
         status_is = status;
         of_ending = subst IsOfEnding (sym status) q.of_input;

@@ -12,7 +12,7 @@ use Rattle.tool_run.specs.declared.status.Status.TheVariants as statuses
 use Rattle.bats_model.specs.Refusal.{HasFront}
 use Rattle.tool_run.specs.Ending.{Ending, to_end}
 use Rattle.tool_run.specs.Promise.{Promise, IsFrontOf}
-use Rattle.tool_records.specs.Reading.{IsReading, refused_ending}
+use Rattle.tool_records.specs.Reading.{IsReading, refusal_ending}
 use Rattle.tool_records.specs.ReadsRecords.{ReadsRecords}
 
 -- the line of a header record
@@ -56,7 +56,7 @@ show_ending session list None = record {
   reach = to_end;
   work = None;
 }
-show_ending session list (Some end) = refused_ending (lines_read session list) end
+show_ending session list (Some end) = refusal_ending (lines_read session list) end
 
 -- how `show` ends where memory is found and no read, write or flush fails
 pub record IsShowEnding (input : List ℕ) (ending : Ending) : Type 0 where

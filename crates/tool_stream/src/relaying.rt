@@ -14,8 +14,8 @@ use crate::sending::send_by_rule;
 use bats_io::{Sink, Source};
 use std::alloc::{AllocError, Global};
 use std::sync::ledger::Ledger;
-use tool_records::{Counters, WalkEnd, refused, walk};
-use tool_run::{Finish, Status, Stop, refuse};
+use tool_records::{Counters, WalkEnd, input_refusal, walk};
+use tool_run::{Finish, Status, Stop, refusal};
 
 // The notes line of a relay that is done: the packets that came, those kept, the batches held, and the outputs sent.
 fn relay_text(
@@ -73,7 +73,7 @@ pub fn relay<S: Source, O: Sink, C: Ledger, L: Ledger>(
     let mut keeper = Keeper::new(seed);
     match walk(alloc, input, &mut keeper, output, counters)? {
         WalkEnd::Whole => send_all(alloc, extra, count, keeper.into_intake(), output),
-        WalkEnd::Refused(end) => Ok(refused(alloc, end)?),
-        WalkEnd::Halted => Ok(refuse(alloc, Status::Limit, "bats: limit kept\n")?),
+        WalkEnd::Refused(end) => Ok(input_refusal(alloc, end)?),
+        WalkEnd::Halted => Ok(refusal(alloc, Status::Limit, "bats: limit kept\n")?),
     }
 }

@@ -11,7 +11,7 @@ ghost use Rattle.tool_stream.specs.steps.Shown.{HasShown, sizes_part, header_res
 use bats_io::{Sink, Source};
 use bats_model::{Item, Packet, Session};
 use std::alloc::{AllocError, Global};
-use tool_records::{Taken, Taker, WalkEnd, refused, walk};
+use tool_records::{Taken, Taker, WalkEnd, input_refusal, walk};
 use tool_run::{Finish, Status, Stop, write_bytes};
 
 // The items that were shown: how many headers and how many packets.
@@ -182,7 +182,7 @@ pub fn show<S: Source, O: Sink>(
     };
     match walk(alloc, input, &mut shown, output, &mut ())? {
         WalkEnd::Whole => Ok(done(alloc, &shown)?),
-        WalkEnd::Refused(end) => Ok(refused(alloc, end)?),
+        WalkEnd::Refused(end) => Ok(input_refusal(alloc, end)?),
         // each item is shown
         WalkEnd::Halted => unreachable!(),
     }

@@ -1,11 +1,14 @@
 -- What stands in the slots of the held batches, and what an offer does to them.
-use Rattle.std.specs.Prelude.{ℕ, ◌≡◌, ◌≢◌, ◌<◌, ◌≤◌, ◌+◌, List, All, map, length}
+use Rattle.std.specs.Prelude.{ℕ, ◌≡◌, ◌≢◌, ◌<◌, ◌≤◌, ◌+◌, Bool, IsTrue, IsFalse, List, All, map, length, Result, IfOk, IfErr, OnErr}
 use Rattle.bats_model.specs.Session.{SessionData}
 use Rattle.bats_model.specs.declared.packet.Packet.{Packet}
 use Rattle.bats_model.specs.declared.taken.Taken.{Taken}
 use Rattle.bats_model.specs.declared.taken.Taken.TheVariants.{Kept, Dependent, Contradiction}
 use Rattle.bats_batch.specs.Basis.{IsTaken, kept_with}
 use Rattle.bats_batch.specs.Held.{HeldBatch, kept_at, row_count, batch_at, HaveRisingNumbers, max_kept}
+use Rattle.bats_batch.specs.Offers.{offer_cost}
+use Rattle.bats_batch.specs.declared.held.HeldEnd.{HeldEnd}
+use Rattle.bats_batch.specs.declared.held.HeldEnd.TheVariants.{Full}
 use Rattle.bats_batch.specs.declared.slot.Slot.{Slot}
 
 -- the held batch of a slot
@@ -63,3 +66,17 @@ pub record Takes (session : SessionData) (old new : List Slot) (packet : Packet)
   pub elsewhere : (number : ℕ) → number ≢ packet.batch
       → kept_at (batches_in new) number ≡ kept_at (batches_in old) number
   pub gain : row_count (batches_in new) ≡ row_count (batches_in old) + gain_of taken
+
+-- and this came of the offer: it is kept only where there is room for one more, `Full` only where it is new and there is none,
+-- and with any error the slots are as before
+pub record OffersTo (session : SessionData) (old new : List Slot) (has_room : Bool) (packet : Packet)
+    (result : Result Taken HeldEnd) : Type 0 where
+  pub takes : IfOk result (Takes session old new packet)
+  pub room : IfOk result (λ taken. taken ≡ Kept → IsTrue has_room)
+  pub full : IfErr result (λ e. e ≡ Full
+      → (IsFalse has_room × IsTaken (kept_at (batches_in old) packet.batch) packet Kept))
+  pub same : OnErr result (new ≡ old)
+
+-- what the offer may cost on each counter
+abbrev pub slots_cost : SessionData → List Slot → Packet → ℕ
+slots_cost session slots packet = offer_cost (record { session = session; batches = batches_in slots }) packet

@@ -79,8 +79,8 @@ fn input(alloc: Global, count: usize, more: &[u8]) -> Result<Vec<u8>, Fail> {
 // How many items come before the end of the input, or why it is refused, which is answered again.
 fn count_items(alloc: Global, bytes: Vec<u8>, most: usize) -> Result<usize, ReadEnd> {
     let mut source = MemSource::new(bytes, most.max(1), Vec::new(alloc));
-    let mut reader = Reader::new();
-    for count in 0..100 {
+    let mut reader = Reader::open(&mut source)?;
+    for count in 1..100 {
         match reader.next(alloc, &mut source) {
             Ok(Some(_)) => {}
             Ok(None) => {
@@ -106,11 +106,12 @@ fn reads_in_pieces_of_any_size(rt: HostRuntime) -> Result<(), Fail> {
     for most in [1, 3, 1000] {
         let file = input(alloc, 50, &[])?;
         let mut source = MemSource::new(file, most, Vec::new(alloc));
-        let mut reader = Reader::new();
-        assert!(rt; reader.session().is_none());
-        let first = reader.next(alloc, &mut source);
-        assert!(rt; matches!(&first, Ok(Some(Item::Header { at: 0 }))));
-        assert!(rt; reader.session().is_some());
+        let opened = Reader::open(&mut source);
+        assert!(rt; opened.is_ok());
+        let Ok(mut reader) = opened else {
+            return Ok(())
+        };
+        assert_eq!(rt; reader.session().m(), 2);
         let second = reader.next(alloc, &mut source);
         assert!(rt; matches!(&second, Ok(Some(Item::Packet { at: 32, .. }))));
         if let Ok(Some(Item::Packet { packet, .. })) = second {
@@ -173,12 +174,14 @@ fn left_of(source: &mut MemSource) -> [u8; 4] {
 fn reads_one_byte_of_what_begins_no_record(rt: HostRuntime) -> Result<(), Fail> {
     let alloc = rt.alloc();
     let mut source = MemSource::new(b"XBTS".to_vec(alloc)?, 1000, Vec::new(alloc));
-    let mut reader = Reader::new();
-    assert!(rt; matches!(&reader.next(alloc, &mut source), Err(ReadEnd::NoHeader)));
+    assert!(rt; matches!(&Reader::open(&mut source), Err(ReadEnd::NoHeader)));
     assert_eq!(rt; &left_of(&mut source), b"BTS\0");
     let mut source = MemSource::new(input(alloc, 32, b"QPBX")?, 1000, Vec::new(alloc));
-    let mut reader = Reader::new();
-    assert!(rt; matches!(&reader.next(alloc, &mut source), Ok(Some(_))));
+    let opened = Reader::open(&mut source);
+    assert!(rt; opened.is_ok());
+    let Ok(mut reader) = opened else {
+        return Ok(())
+    };
     assert!(rt;
         matches!(
             &reader.next(alloc, &mut source),
@@ -221,8 +224,11 @@ fn reads_repeats_of_the_header(rt: HostRuntime) -> Result<(), Fail> {
 fn answers_a_failed_read_again(rt: HostRuntime) -> Result<(), Fail> {
     let alloc = rt.alloc();
     let mut source = MemSource::new(input(alloc, 50, &[])?, 1000, vec![in alloc; 3]?);
-    let mut reader = Reader::new();
-    assert!(rt; matches!(&reader.next(alloc, &mut source), Ok(Some(_))));
+    let opened = Reader::open(&mut source);
+    assert!(rt; opened.is_ok());
+    let Ok(mut reader) = opened else {
+        return Ok(())
+    };
     assert!(rt; matches!(&reader.next(alloc, &mut source), Err(ReadEnd::ReadFault)));
     assert!(rt; matches!(&reader.next(alloc, &mut source), Err(ReadEnd::ReadFault)));
     Ok(())

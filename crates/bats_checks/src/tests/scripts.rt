@@ -1,4 +1,5 @@
-use bats_script::{ScriptEnd, ScriptKey, key_bytes, key_word, read_script, trial_file};
+use bats_sampler::{key_bytes, key_word};
+use bats_script::{ScriptEnd, ScriptKey, read_script, trial_file};
 use bats_world::Event;
 use std::alloc::Global;
 use std::test::Fail;

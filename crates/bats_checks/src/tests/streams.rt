@@ -12,16 +12,17 @@ fn count(calls: &Cell<u8>) -> u8 {
     number
 }
 
-// Fails at the first read, and gives the byte 7 at each later one.
+// Fails at the first read, with an error of this kind, and gives the byte 7 at each later one.
 #[derive(Drop)]
 struct LateReader<'a> {
+    kind: io::ErrorKind,
     calls: &'a Cell<u8>,
 }
 
 impl<'a> Read for LateReader<'a> {
     fn read(&mut self, buf: &mut [u8]) -> io::Result<usize> {
         if count(self.calls) == 1 {
-            return Err(io::Error::from(io::ErrorKind::Interrupted));
+            return Err(io::Error::from(self.kind));
         }
         let Some(first) = buf.first_mut() else {
             return Ok(0);
@@ -31,9 +32,11 @@ impl<'a> Read for LateReader<'a> {
     }
 }
 
-// Fails at the first write and the first flush, or takes no byte at the first write, and does each later one.
+// Fails at the first write and the first flush, with an error of this kind, or takes no byte at the first write, and
+// does each later one.
 #[derive(Drop)]
 struct LateWriter<'a> {
+    kind: io::ErrorKind,
     takes_nothing: bool,
     writes: &'a Cell<u8>,
     flushes: &'a Cell<u8>,
@@ -47,14 +50,14 @@ impl<'a> Write for LateWriter<'a> {
         if self.takes_nothing {
             return Ok(0);
         }
-        Err(io::Error::from(io::ErrorKind::Interrupted))
+        Err(io::Error::from(self.kind))
     }
 
     fn flush(&mut self) -> io::Result<()> {
         if count(self.flushes) > 1 {
             return Ok(());
         }
-        Err(io::Error::from(io::ErrorKind::Interrupted))
+        Err(io::Error::from(self.kind))
     }
 }
 
@@ -71,7 +74,10 @@ fn reads_to_the_end(rt: HostRuntime) {
 fn reads_once_a_call(rt: HostRuntime) {
     let calls = Cell::new(0);
     let mut buf = [0; 4];
-    let mut source = StdSource::new(LateReader { calls: &calls });
+    let mut source = StdSource::new(LateReader {
+        kind: io::ErrorKind::TimedOut,
+        calls: &calls,
+    });
     assert_eq!(rt; source.read(&mut buf), Err(Failed));
     assert_eq!(rt; calls.get(), 1);
     assert_eq!(rt; source.read(&mut buf), Ok(1));
@@ -96,6 +102,7 @@ fn writes_once_a_call(rt: HostRuntime) {
         let writes = Cell::new(0);
         let flushes = Cell::new(0);
         let mut sink = StdSink::new(LateWriter {
+            kind: io::ErrorKind::TimedOut,
             takes_nothing,
             writes: &writes,
             flushes: &flushes,
@@ -113,6 +120,7 @@ fn flushes_once_a_call(rt: HostRuntime) {
     let writes = Cell::new(1);
     let flushes = Cell::new(0);
     let mut sink = StdSink::new(LateWriter {
+        kind: io::ErrorKind::TimedOut,
         takes_nothing: false,
         writes: &writes,
         flushes: &flushes,
@@ -123,6 +131,35 @@ fn flushes_once_a_call(rt: HostRuntime) {
     assert_eq!(rt; sink.flush(), Ok(()));
     assert_eq!(rt; flushes.get(), 2);
     assert_eq!(rt; writes.get(), 2);
+}
+
+#[test]
+fn reads_again_when_interrupted(rt: HostRuntime) {
+    let calls = Cell::new(0);
+    let mut buf = [0; 4];
+    let mut source = StdSource::new(LateReader {
+        kind: io::ErrorKind::Interrupted,
+        calls: &calls,
+    });
+    assert_eq!(rt; source.read(&mut buf), Ok(1));
+    assert_eq!(rt; &buf, b"\x07\0\0\0");
+    assert_eq!(rt; calls.get(), 2);
+}
+
+#[test]
+fn writes_and_flushes_again_when_interrupted(rt: HostRuntime) {
+    let writes = Cell::new(0);
+    let flushes = Cell::new(0);
+    let mut sink = StdSink::new(LateWriter {
+        kind: io::ErrorKind::Interrupted,
+        takes_nothing: false,
+        writes: &writes,
+        flushes: &flushes,
+    });
+    assert_eq!(rt; sink.write(b"abc"), Ok(3));
+    assert_eq!(rt; writes.get(), 2);
+    assert_eq!(rt; sink.flush(), Ok(()));
+    assert_eq!(rt; flushes.get(), 2);
 }
 
 #[test]

@@ -1,15 +1,12 @@
 -- The payload rows, one for each kept packet, before and after the plan.
-use Rattle.std.specs.Prelude.{ℕ, ◌≡◌, List, map}
+use Rattle.std.specs.Prelude.{ℕ, ◌≡◌, List}
 use Rattle.gf_rows.specs.declared.operation.Op.{Op}
 use Rattle.gf_rows.specs.Matrix.{Grid, IsMatrix}
 use Rattle.gf_rows.specs.Plan.{plan_on_rows}
+use Rattle.bats_model.specs.Relay.{payloads_of}
 use Rattle.bats_model.specs.declared.packet.Packet.{Packet}
 
--- the payloads of the packets
-abbrev pub payloads_of : List Packet → List (List ℕ)
-payloads_of packets = map (λ packet. packet.payload) packets
-
--- they are the rows of t bytes each
+-- the payloads of the packets are the rows of t bytes each
 abbrev pub payload_grid : ℕ → List Packet → Grid
 payload_grid t packets = record { cols = t; rows = payloads_of packets }
 

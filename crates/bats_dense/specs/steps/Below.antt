@@ -25,9 +25,9 @@ pub record IsReducedBelow (c : ℕ) (m : Grid) (eqs others : List ℕ) (used : L
   pub cleared : AreCleared m others pivot_columns
   pub places : length used ≡ length eqs
 
--- what elimination has come to after the first c columns
-abbrev pub IsEliminatedBelow : ℕ → List ℕ → List ℕ → Progress → Type 0
-IsEliminatedBelow c eqs others p = IsReducedBelow c p.matrix eqs others p.used.items p.pivot_rows p.pivot_columns p.free
+-- what the reduction has come to after the first c columns
+abbrev pub IsProgressBelow : ℕ → List ℕ → List ℕ → Progress → Type 0
+IsProgressBelow c eqs others p = IsReducedBelow c p.matrix eqs others p.used.items p.pivot_rows p.pivot_columns p.free
 
 -- the equation at this place has no pivot, and isn't 0 in the column
 pub record IsPivotPlace (m : Grid) (eqs : List ℕ) (used : List Bool) (column place : ℕ) : Type 0 where

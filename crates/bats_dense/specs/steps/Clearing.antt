@@ -23,7 +23,7 @@ pub record Normalizes (row column : ℕ) (old new : Grid) (before after : List O
 
 -- the equation at this place is 1 in the column, and all other rows at hand are 0 there. A column where that equation
 -- was 0 keeps its entries
-pub record Eliminates (eqs others : List ℕ) (place column : ℕ) (old new : Grid) (before after : List Op) : Type 0 where
+pub record ClearsColumn (eqs others : List ℕ) (place column : ℕ) (old new : Grid) (before after : List Op) : Type 0 where
   pub performed : Performed eqs old new before after
   pub one : matrix_entry new (slice_index eqs place) column ≡ 1
   pub eqs_zero : (k : ℕ) → k < length eqs → k ≢ place → matrix_entry new (slice_index eqs k) column ≡ 0

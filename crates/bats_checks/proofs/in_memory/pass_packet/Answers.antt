@@ -18,4 +18,4 @@ returns-clause-received g c file taken received =
     let agrees : Agrees c.args.receiver.now.held.session file packet =
     subst (λ (s : SessionData). Agrees s file packet) (c.requires.relay ∙ sym c.requires.receiver)
     (tells taken.packets file taken.stands (kept-agrees file c.args.relay.now.held c.args.number taken)) in
-    HasReceived-more file c.args.receiver.now c.offer.new.self packet c.offer.ensures.session c.in_ok-offer.ensures.ok agrees received
+    HasReceived-more file c.args.receiver.now c.offer.new.self packet c.in_ok-offer.ensures.collects.session c.in_ok-offer.ensures.collects.stands agrees received

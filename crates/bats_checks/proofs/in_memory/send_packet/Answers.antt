@@ -32,4 +32,4 @@ returns-clause-taken g c =
     subst (λ (s : SessionData). Agrees s c.args.encoder.now.file c.in_ok-packet.packet) (c.requires.encoder ∙ sym c.requires.relay)
     c.in_ok-packet.ensures.agrees in
     HasTaken-more c.args.encoder.now.file c.args.relay.now.held c.offer.new.self.held c.in_ok-packet.packet
-    c.offer.ensures.session c.in_ok-offer.ensures.ok agrees c.requires.taken
+    c.in_ok-offer.ensures.offers.session c.in_ok-offer.ensures.offers.stands agrees c.requires.taken

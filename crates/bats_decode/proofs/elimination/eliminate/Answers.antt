@@ -7,7 +7,7 @@ use Rattle.bats_batch.specs.Held.{row_count, kept_packets}
 use Rattle.bats_peel.specs.Peeled.{IsPeeled, IsPlaced}
 use Rattle.bats_decode.specs.steps.Left.{AreOwnRows}
 use Rattle.bats_decode.specs.declared.elimination.Place.{Place}
-use Rattle.bats_decode.proofs.PayloadLemmas.{length-kept_packets}
+use Rattle.bats_batch.proofs.HeldNumbers.{length-kept_packets}
 use Rattle.bats_decode.proofs.LeftLemmas.{HaveOwnRows-placed, HaveColumns-placed, AreTargets-left, targets-count, cols-inactive, places-read}
 use Rattle.bats_decode.proofs.EliminatedLemmas.{IsEliminated-peeled, plan-within, ArePlaces-read}
 use Rattle.bats_decode.proofs.elimination.eliminate.Goals as goal
@@ -96,5 +96,5 @@ returns-clause-bound g c packets h =
     (subst (λ (n : ℕ). AreOwnRows n peeled.places c.in_ok-others.others) c.symbols-symbols.ensures.value c.in_ok-others.ensures)) in
     subst (λ (n : ℕ). length dense.plan ≤ rows * (degree + n)) (sym c.in_ok-dense.ensures.performed.cols)
     (plan-within c.reduce.new.coef_steps c.peel.new.coef_steps (length peeled.plan) (length dense.plan) (length peeled.leftover)
-    (length c.in_ok-others.others) peeled.rows.cols rows degree c.in_ok-dense.ensures.counted c.reduce.ensures.coef_steps few
+    (length c.in_ok-others.others) peeled.rows.cols rows degree c.in_ok-dense.ensures.counted c.reduce.ensures.coef_steps.within few
     (c.in_ok-peeled.ensures.bound packets h))

@@ -1,5 +1,5 @@
 use Rattle.std.proofs.Common.{◌≡◌, ◌+◌, ◌++◌, length, take}
-use Rattle.bats_decode.specs.steps.Replayed.{payloads_of}
+use Rattle.bats_model.specs.Relay.{payloads_of}
 use Rattle.bats_decode.proofs.payload_rows.write_batch.Given as goal
 
 abbrev pub invariant-packets : goal.invariant-packets

@@ -1,5 +1,6 @@
 use Rattle.std.proofs.Common.{◌≢◌, get_or, take, arith}
 use Rattle.std.proofs.lemmas.List.Elements.{All-take}
+use Rattle.gf_rows.proofs.SpendsLemmas.{Spends-none, Spends-then}
 use Rattle.bats_dense.proofs.ClearLemmas.{Clears-none, Clears-more, Clears-row_within, Clears-column_within, Clears-pivot_one}
 use Rattle.bats_dense.proofs.rows.clear_rows.Goals as goal
 
@@ -7,8 +8,7 @@ pub clearing-init : goal.clearing-init
 clearing-init g c = record {
   clears = Clears-none c.args.pivot c.args.column c.args.matrix.now c.args.plan.now;
   counted = omega arith;
-  coef_steps = omega arith;
-  coef_steps_rise = omega arith;
+  coef_steps = Spends-none c.args.coef_steps.now 0;
 }
 
 pub clear_row-requires-clause-pivot : goal.clear_row-requires-clause-pivot
@@ -37,6 +37,5 @@ clearing-preserved g c = record {
       Clears-more c.args.pivot c.args.column c.args.rows.now c.clearing.row-index c.args.matrix.now c.clearing.matrix c.clear_row.new.matrix c.args.plan.now c.clearing.plan c.clear_row.new.plan
       (omega arith) c.clearing.invariant.clears c.in_ok-clear_row.ensures.clears;
   counted = omega (arith, c.in_ok-clear_row.ensures.counted);
-  coef_steps = omega (arith, c.in_ok-clear_row.ensures.coef_steps);
-  coef_steps_rise = omega (arith, c.in_ok-clear_row.ensures.coef_steps_rise);
+  coef_steps = Spends-then c.clearing.invariant.coef_steps c.in_ok-clear_row.ensures.coef_steps;
 }

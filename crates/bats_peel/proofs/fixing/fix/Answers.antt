@@ -42,7 +42,7 @@ returns-in_err-dense-clause-coef_steps g c =
     c.in_ok-places.places (c.in_ok-rows.ensures ∙ ap (range_with_len 0) c.rows-2.ensures.count) c.new.ensures
     (c.in_ok-columns.ensures.cols ∙ ap (λ (xs : List ℕ). length xs) c.as_slice.ensures)
     (places_few c.args.local.now c.args.known.now c.in_ok-places.places c.in_ok-places.ensures c.requires.cols c.requires.matrix)
-    c.reduce.ensures.coef_steps
+    c.reduce.ensures.coef_steps.within
 
 pub returns-then-len-gt0-clause-found : goal.returns-then-len-gt0-clause-found
 returns-then-len-gt0-clause-found g c =
@@ -58,7 +58,7 @@ returns-then-len-gt0-clause-coef_steps g c =
     c.in_ok-places.places (c.in_ok-rows.ensures ∙ ap (range_with_len 0) c.rows-2.ensures.count) c.new.ensures
     (c.in_ok-columns.ensures.cols ∙ ap (λ (xs : List ℕ). length xs) c.as_slice.ensures)
     (places_few c.args.local.now c.args.known.now c.in_ok-places.places c.in_ok-places.ensures c.requires.cols c.requires.matrix)
-    c.reduce.ensures.coef_steps
+    c.reduce.ensures.coef_steps.within
 
 pub returns-clause-found : goal.returns-clause-found
 returns-clause-found g c =
@@ -75,7 +75,7 @@ returns-clause-found g c =
         IsFixing-reduced c.args.local.now c.args.known.now c.in_ok-places.places c.in_ok-places.ensures c.requires.cols c.requires.matrix
             c.in_ok-columns.columns c.in_ok-rows.rows c.new.result c.new-2.result c.in_ok-dense.dense columns rows c.new-2.ensures
             c.in_ok-dense.ensures.reduced c.in_ok-dense.ensures.performed c.in_ok-dense.ensures.solutions no_free
-            c.args.coef_steps.now c.reduce.new.coef_steps c.new.ensures c.in_ok-dense.ensures.fits c.in_ok-dense.ensures.counted c.reduce.ensures.coef_steps,
+            c.args.coef_steps.now c.reduce.new.coef_steps c.new.ensures c.in_ok-dense.ensures.fits c.in_ok-dense.ensures.counted c.reduce.ensures.coef_steps.within,
       ),
     )
 
@@ -85,4 +85,4 @@ returns-clause-coef_steps g c =
     c.in_ok-places.places (c.in_ok-rows.ensures ∙ ap (range_with_len 0) c.rows-2.ensures.count) c.new.ensures
     (c.in_ok-columns.ensures.cols ∙ ap (λ (xs : List ℕ). length xs) c.as_slice.ensures)
     (places_few c.args.local.now c.args.known.now c.in_ok-places.places c.in_ok-places.ensures c.requires.cols c.requires.matrix)
-    c.reduce.ensures.coef_steps
+    c.reduce.ensures.coef_steps.within

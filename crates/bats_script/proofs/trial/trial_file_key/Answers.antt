@@ -1,4 +1,4 @@
-use Rattle.bats_script.proofs.KeyBytes.{trial_file_key-bytes}
+use Rattle.bats_script.proofs.TrialKeys.{trial_file_key-bytes}
 use Rattle.bats_script.proofs.trial.trial_file_key.Goals as goal
 
 pub returns : goal.returns

@@ -1,6 +1,6 @@
 use Rattle.std.proofs.Common.{◌≡◌, ℕ, length, subst, arith}
 use Rattle.tool_replay.specs.steps.Playing.{HasPlayed}
-use Rattle.tool_replay.proofs.EventsPlayed.{HasPlayed-start, HasPlayed-more, HasPlayed-stopped}
+use Rattle.tool_replay.proofs.EventsPlayed.{HasPlayed-start, HasPlayed-more, HasPlayed-obstacle}
 use Rattle.tool_replay.proofs.playing.play.Goals as goal
 
 pub events-init : goal.events-init
@@ -14,7 +14,7 @@ events-preserved g c = λ start stands reached.
 
 pub returns-in-Err-clause-err : goal.returns-in-Err-clause-err
 returns-in-Err-clause-err g c = λ other start stands reached.
-    HasPlayed-stopped start c.args.events.now c.events.i c.args.counters.now.steps c.events.counters.steps c.events.world
+    HasPlayed-obstacle start c.args.events.now c.events.i c.args.counters.now.steps c.events.counters.steps c.events.world
     (c.events.invariant start stands reached) c.event_at.result c.event_at.ensures.value c.in-Err.cause (c.in-Err.ensures.cause other)
 
 pub returns-clause-ok : goal.returns-clause-ok

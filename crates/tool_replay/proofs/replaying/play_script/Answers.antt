@@ -4,7 +4,7 @@ use Rattle.bats_world.specs.World.{NetworkState, opening}
 use Rattle.bats_world.proofs.Reaching.{IsReached-opening}
 use Rattle.tool_run.specs.declared.stop.Stop.{Stop}
 use Rattle.tool_run.specs.Streams.{Counters}
-use Rattle.tool_replay.proofs.ScriptsRead.{Attempts-stopped, Attempts-unplayed}
+use Rattle.tool_replay.proofs.ScriptsRead.{Attempts-obstacle, Attempts-unplayed}
 use Rattle.tool_replay.proofs.replaying.play_script.Goals as goal
 
 pub returns-in_err-world : goal.returns-in_err-world
@@ -39,8 +39,8 @@ returns g c = λ before after read.
     let now : Counters = record { coefficients = c.play.new.counters.coef_steps; payloads = c.play.new.counters.steps } in
     let script = c.args.script in
     let start : NetworkState = opening script.session script.file script.relay_seeds script.links in
-    Attempts-stopped c.args.both c.args.pool before after (g.O.Sink.state c.args.output.now) given now script c.in-Err.halt.number c.in-Err.halt.cause
-    c.halted.result read
+    Attempts-obstacle c.args.both c.args.pool before after (g.O.Sink.state c.args.output.now) given now script c.in-Err.obstacle.number c.in-Err.obstacle.cause
+    c.at_obstacle.result read
     (λ other. c.in-Err.ensures.err other start c.in_ok-world.ensures.stands
     (IsReached-opening script.session script.file script.relay_seeds script.links))
-    c.halted.ensures.status c.halted.ensures.line c.halted.ensures.told c.halted.ensures.stop
+    c.at_obstacle.ensures.status c.at_obstacle.ensures.line c.at_obstacle.ensures.told c.at_obstacle.ensures.stop

@@ -9,22 +9,22 @@ returns-in_err-walk g c =
     let after : Ends = record { input = g.S.Source.state c.walk.new.input; output = g.O.Sink.state c.walk.new.output } in
     ReceivesAll-stopped c.walk.new.taker.intake c.args.counters.now.steps c.walk.new.tools.steps before after c.in_err-walk.field-0.0 _ c.from_residual.ensures.1 c.in_err-walk.ensures
 
-pub returns-in_err-refused-in-Refused : goal.returns-in_err-refused-in-Refused
-returns-in_err-refused-in-Refused g c =
+pub returns-in_err-input_refusal-in-Refused : goal.returns-in_err-input_refusal-in-Refused
+returns-in_err-input_refusal-in-Refused g c =
     let before : Ends = record { input = g.S.Source.state c.args.input.now; output = g.O.Sink.state c.args.output.now } in
     let after : Ends = record { input = g.S.Source.state c.walk.new.input; output = g.O.Sink.state c.walk.new.output } in
     let intake = c.walk.new.taker.intake in
-    ReceivesAll-refused_unsaid intake c.args.counters.now.steps c.walk.new.tools.steps before after c.in-Refused.end _ c.from_residual-in_err-refused-in-Refused.ensures.1
+    ReceivesAll-refused_unsaid intake c.args.counters.now.steps c.walk.new.tools.steps before after c.in-Refused.end _ c.from_residual-in_err-input_refusal-in-Refused.ensures.1
     (walked_so intake c.args.counters.now.steps c.walk.new.tools.steps before after c.in_ok-walk.field-0 (walks.Refused c.in-Refused.end) c.in-Refused.is c.in_ok-walk.ensures)
 
-pub returns-in_ok-refused-in-Refused : goal.returns-in_ok-refused-in-Refused
-returns-in_ok-refused-in-Refused g c =
+pub returns-in_ok-input_refusal-in-Refused : goal.returns-in_ok-input_refusal-in-Refused
+returns-in_ok-input_refusal-in-Refused g c =
     let before : Ends = record { input = g.S.Source.state c.args.input.now; output = g.O.Sink.state c.args.output.now } in
     let after : Ends = record { input = g.S.Source.state c.walk.new.input; output = g.O.Sink.state c.walk.new.output } in
     let intake = c.walk.new.taker.intake in
-    ReceivesAll-refused intake c.args.counters.now.steps c.walk.new.tools.steps before after c.in-Refused.end c.in_ok-refused-in-Refused.field-0
+    ReceivesAll-refused intake c.args.counters.now.steps c.walk.new.tools.steps before after c.in-Refused.end c.in_ok-input_refusal-in-Refused.field-0
     (walked_so intake c.args.counters.now.steps c.walk.new.tools.steps before after c.in_ok-walk.field-0 (walks.Refused c.in-Refused.end) c.in-Refused.is c.in_ok-walk.ensures)
-    c.in_ok-refused-in-Refused.ensures.status c.in_ok-refused-in-Refused.ensures.line
+    c.in_ok-input_refusal-in-Refused.ensures.status c.in_ok-input_refusal-in-Refused.ensures.line
 
 pub returns-in_err-finish-in-Halted : goal.returns-in_err-finish-in-Halted
 returns-in_err-finish-in-Halted g c =

@@ -5,7 +5,7 @@ use Rattle.tool_stream.proofs.keeping.keep.Goals as goal
 
 pub returns-in-Ok : goal.returns-in-Ok
 returns-in-Ok g c =
-    TakesIn-packet c.args.at c.args.packet.now _ _ refl c.in-Ok.ensures.session c.in-Ok.ensures.seed refl c.in-Ok.ensures.ok
+    TakesIn-packet c.args.at c.args.packet.now _ _ refl c.in-Ok.ensures.offers.session c.in-Ok.ensures.seed refl c.in-Ok.ensures.offers.stands
     (λ list stands. omega (
       arith,
       c.rows-few.ensures.limit,
@@ -15,5 +15,5 @@ returns-in-Ok g c =
 
 pub returns-in-Err-Full : goal.returns-in-Err-Full
 returns-in-Err-Full g c =
-    let full = c.in-Err-Full.ensures.full c.in-Err-Full.field-0-is in
+    let full = c.in-Err-Full.ensures.offers.full c.in-Err-Full.field-0-is in
     one_too_many c.args.at c.args.packet.now c.args.intake.now c.requires.shape full.0 full.1

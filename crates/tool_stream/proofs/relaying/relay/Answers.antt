@@ -5,7 +5,7 @@ use Rattle.tool_run.proofs.Attempts.{AttemptsUncounted-exit}
 use Rattle.tool_records.specs.declared.walking.WalkEnd.{WalkEnd}
 use Rattle.tool_records.specs.declared.walking.WalkEnd.TheVariants as walks
 use Rattle.tool_records.specs.Keeping.{kept_limit_ending}
-use Rattle.tool_records.specs.Reading.{refused_ending}
+use Rattle.tool_records.specs.Reading.{refusal_ending}
 use Rattle.tool_records.specs.Walk.{Walks}
 use Rattle.tool_records.proofs.KeptWalks.{FinishesBy-exit, Attempts-refused, Attempts-full, Attempts-stopped}
 use Rattle.tool_stream.specs.declared.keeping.Intake.{Intake}
@@ -79,8 +79,8 @@ returns-in-Whole g c =
     (Attempts-sent seed taker.seed c.args.extra c.args.count c.into_intake.result before after (g.O.Sink.state c.send_all.new.output)
     c.send_all.result kept (c.send_all.ensures seed))
 
-pub returns-in_ok-refused-in-Refused : goal.returns-in_ok-refused-in-Refused
-returns-in_ok-refused-in-Refused g c =
+pub returns-in_ok-input_refusal-in-Refused : goal.returns-in_ok-input_refusal-in-Refused
+returns-in_ok-input_refusal-in-Refused g c =
     let before : Ends = (record { input = g.S.Source.state c.args.input.now; output = g.O.Sink.state c.args.output.now }) in
     let after : Ends = (record { input = g.S.Source.state c.walk.new.input; output = g.O.Sink.state c.walk.new.output }) in
     let seed = c.new-keeper.result.seed in
@@ -89,10 +89,10 @@ returns-in_ok-refused-in-Refused g c =
     subst (λ (end : WalkEnd). Walks (Keeps seed taker.seed taker.intake) before after (Ok end)) c.in-Refused.is c.in_ok-walk.ensures in
     Attempts-refused (IsRelayEnding c.args.seed c.args.extra c.args.count) before after (stops_right c.args.seed c.args.extra c.args.count)
     c.in-Refused.end _ (few_walked seed taker.seed taker.intake before after _ walked)
-    (c.in_ok-refused-in-Refused.ensures.status, c.in_ok-refused-in-Refused.ensures.line)
+    (c.in_ok-input_refusal-in-Refused.ensures.status, c.in_ok-input_refusal-in-Refused.ensures.line)
 
-pub returns-in_err-refused-in-Refused : goal.returns-in_err-refused-in-Refused
-returns-in_err-refused-in-Refused g c =
+pub returns-in_err-input_refusal-in-Refused : goal.returns-in_err-input_refusal-in-Refused
+returns-in_err-input_refusal-in-Refused g c =
     let before : Ends = (record { input = g.S.Source.state c.args.input.now; output = g.O.Sink.state c.args.output.now }) in
     let after : Ends = (record { input = g.S.Source.state c.walk.new.input; output = g.O.Sink.state c.walk.new.output }) in
     let seed = c.new-keeper.result.seed in
@@ -101,10 +101,10 @@ returns-in_err-refused-in-Refused g c =
     subst (λ (end : WalkEnd). Walks (Keeps seed taker.seed taker.intake) before after (Ok end)) c.in-Refused.is c.in_ok-walk.ensures in
     Attempts-refused (IsRelayEnding c.args.seed c.args.extra c.args.count) before after (stops_right c.args.seed c.args.extra c.args.count)
     c.in-Refused.end _ (few_walked seed taker.seed taker.intake before after _ walked)
-    (FinishesBy-exit (refused_ending [] c.in-Refused.end) _ c.from_residual-in_err-refused-in-Refused.ensures.1)
+    (FinishesBy-exit (refusal_ending [] c.in-Refused.end) _ c.from_residual-in_err-input_refusal-in-Refused.ensures.1)
 
-pub returns-in_ok-refuse-in-Halted : goal.returns-in_ok-refuse-in-Halted
-returns-in_ok-refuse-in-Halted g c =
+pub returns-in_ok-refusal-in-Halted : goal.returns-in_ok-refusal-in-Halted
+returns-in_ok-refusal-in-Halted g c =
     let before : Ends = (record { input = g.S.Source.state c.args.input.now; output = g.O.Sink.state c.args.output.now }) in
     let after : Ends = (record { input = g.S.Source.state c.walk.new.input; output = g.O.Sink.state c.walk.new.output }) in
     let seed = c.new-keeper.result.seed in
@@ -113,10 +113,10 @@ returns-in_ok-refuse-in-Halted g c =
     subst (λ (end : WalkEnd). Walks (Keeps seed taker.seed taker.intake) before after (Ok end)) c.in-Halted.is c.in_ok-walk.ensures in
     Attempts-full (IsRelayEnding c.args.seed c.args.extra c.args.count) before after (stops_right c.args.seed c.args.extra c.args.count)
     _ (few_walked seed taker.seed taker.intake before after _ walked)
-    (c.in_ok-refuse-in-Halted.ensures.status, c.in_ok-refuse-in-Halted.ensures.line)
+    (c.in_ok-refusal-in-Halted.ensures.status, c.in_ok-refusal-in-Halted.ensures.line)
 
-pub returns-in_err-refuse-in-Halted : goal.returns-in_err-refuse-in-Halted
-returns-in_err-refuse-in-Halted g c =
+pub returns-in_err-refusal-in-Halted : goal.returns-in_err-refusal-in-Halted
+returns-in_err-refusal-in-Halted g c =
     let before : Ends = (record { input = g.S.Source.state c.args.input.now; output = g.O.Sink.state c.args.output.now }) in
     let after : Ends = (record { input = g.S.Source.state c.walk.new.input; output = g.O.Sink.state c.walk.new.output }) in
     let seed = c.new-keeper.result.seed in
@@ -125,4 +125,4 @@ returns-in_err-refuse-in-Halted g c =
     subst (λ (end : WalkEnd). Walks (Keeps seed taker.seed taker.intake) before after (Ok end)) c.in-Halted.is c.in_ok-walk.ensures in
     Attempts-full (IsRelayEnding c.args.seed c.args.extra c.args.count) before after (stops_right c.args.seed c.args.extra c.args.count)
     _ (few_walked seed taker.seed taker.intake before after _ walked)
-    (FinishesBy-exit kept_limit_ending _ c.from_residual-in_err-refuse-in-Halted.ensures.1)
+    (FinishesBy-exit kept_limit_ending _ c.from_residual-in_err-refusal-in-Halted.ensures.1)

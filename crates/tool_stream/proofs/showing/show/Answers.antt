@@ -26,11 +26,11 @@ returns-in_err-done-in-Whole g c =
     AttemptsUncounted-exit show_promise before after stops.Memory _ c.from_residual-in_err-done-in-Whole.ensures.1
     (Attempts-unsaid c.walk.new.taker.headers c.walk.new.taker.packets before after c.in_ok-walk.field-0 c.in_ok-walk.ensures)
 
-pub returns-in_err-refused-in-Refused : goal.returns-in_err-refused-in-Refused
-returns-in_err-refused-in-Refused g c =
+pub returns-in_err-input_refusal-in-Refused : goal.returns-in_err-input_refusal-in-Refused
+returns-in_err-input_refusal-in-Refused g c =
     let before : Ends = (record { input = g.S.Source.state c.args.input.now; output = g.O.Sink.state c.args.output.now }) in
     let after : Ends = (record { input = g.S.Source.state c.walk.new.input; output = g.O.Sink.state c.walk.new.output }) in
-    AttemptsUncounted-exit show_promise before after stops.Memory _ c.from_residual-in_err-refused-in-Refused.ensures.1
+    AttemptsUncounted-exit show_promise before after stops.Memory _ c.from_residual-in_err-input_refusal-in-Refused.ensures.1
     (Attempts-unsaid c.walk.new.taker.headers c.walk.new.taker.packets before after c.in_ok-walk.field-0 c.in_ok-walk.ensures)
 
 pub returns-in_ok-done-in-Whole : goal.returns-in_ok-done-in-Whole
@@ -42,11 +42,11 @@ returns-in_ok-done-in-Whole g c =
     (subst (λ (end : WalkEnd). Walks (HasShown taker.headers taker.packets) before after (Ok end)) c.in-Whole.is c.in_ok-walk.ensures)
     c.in_ok-done-in-Whole.ensures.status c.in_ok-done-in-Whole.ensures.line
 
-pub returns-in_ok-refused-in-Refused : goal.returns-in_ok-refused-in-Refused
-returns-in_ok-refused-in-Refused g c =
+pub returns-in_ok-input_refusal-in-Refused : goal.returns-in_ok-input_refusal-in-Refused
+returns-in_ok-input_refusal-in-Refused g c =
     let before : Ends = (record { input = g.S.Source.state c.args.input.now; output = g.O.Sink.state c.args.output.now }) in
     let after : Ends = (record { input = g.S.Source.state c.walk.new.input; output = g.O.Sink.state c.walk.new.output }) in
     let taker = c.walk.new.taker in
-    Attempts-refused taker.headers taker.packets before after c.in-Refused.end c.in_ok-refused-in-Refused.field-0
+    Attempts-refused taker.headers taker.packets before after c.in-Refused.end c.in_ok-input_refusal-in-Refused.field-0
     (subst (λ (end : WalkEnd). Walks (HasShown taker.headers taker.packets) before after (Ok end)) c.in-Refused.is c.in_ok-walk.ensures)
-    c.in_ok-refused-in-Refused.ensures.status c.in_ok-refused-in-Refused.ensures.line
+    c.in_ok-input_refusal-in-Refused.ensures.status c.in_ok-input_refusal-in-Refused.ensures.line

@@ -15,7 +15,7 @@ use Rattle.bats_decode.specs.steps.Replayed.{IsReplayed}
 use Rattle.bats_decode.specs.steps.SymbolRows.{rows_with}
 use Rattle.bats_decode.proofs.AnswersRight.{answers-right}
 use Rattle.bats_decode.proofs.LeftLemmas.{cols-inactive}
-use Rattle.bats_decode.proofs.PayloadLemmas.{length-kept_packets}
+use Rattle.bats_batch.proofs.HeldNumbers.{length-kept_packets}
 use Rattle.bats_decode.proofs.Solving.{shapes-kept, right-contradicted, right-of_kept, replayed-payloads, length-replayed, plan-follows, steps-bounded}
 use Rattle.bats_decode.proofs.decoder.Decoder.solve.Goals as goal
 

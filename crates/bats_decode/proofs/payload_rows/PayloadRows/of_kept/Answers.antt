@@ -5,7 +5,7 @@ use Rattle.gf_rows.specs.Matrix.{Grid}
 use Rattle.bats_model.specs.declared.packet.Packet.{Packet}
 use Rattle.bats_batch.specs.Basis.{BasisData}
 use Rattle.bats_batch.specs.Held.{HeldBatch, batch_at}
-use Rattle.bats_decode.specs.steps.Replayed.{payloads_of}
+use Rattle.bats_model.specs.Relay.{payloads_of}
 use Rattle.bats_decode.proofs.PayloadLemmas.{kept_packets-none, row_count-more, row_count-within, written-batch}
 use Rattle.bats_decode.proofs.payload_rows.PayloadRows.of_kept.Goals as goal
 

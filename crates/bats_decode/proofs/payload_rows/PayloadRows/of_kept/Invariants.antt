@@ -1,6 +1,6 @@
 use Rattle.std.proofs.Common.{◌≡◌, length, take}
 use Rattle.bats_batch.specs.Held.{row_count, kept_packets}
-use Rattle.bats_decode.specs.steps.Replayed.{payloads_of}
+use Rattle.bats_model.specs.Relay.{payloads_of}
 use Rattle.bats_decode.proofs.payload_rows.PayloadRows.of_kept.Given as goal
 
 abbrev pub invariant-batches : goal.invariant-batches

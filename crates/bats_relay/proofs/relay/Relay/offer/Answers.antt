@@ -1,4 +1,4 @@
 use Rattle.bats_relay.proofs.relay.Relay.offer.Goals as goal
 
-pub returns-clause-ok : goal.returns-clause-ok
-returns-clause-ok g c = rw (← c.self.view_is) c.offer.ensures.ok
+pub returns-clause-offers : goal.returns-clause-offers
+returns-clause-offers g c = rw (← c.self.view_is) c.offer.ensures.offers

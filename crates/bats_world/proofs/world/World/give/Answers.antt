@@ -27,7 +27,7 @@ returns-in_err-offer-clause-cause g c =
     c.from_residual-in_err-offer.ensures.1
     (λ full state stands.
     let w : StandsFor state world = subst (StandsFor state) (sym c.self.view_is) stands in
-    let refused = c.in_err-offer.ensures.full full in
+    let refused = c.in_err-offer.ensures.collects.full full in
     sink-refuses state world w c.self.invariant.1 c.args.place c.args.node c.index.result.now
     (omega (arith, c.in_ok-judge_give.ensures.place, ap (λ (w : WorldData). length w.pool) c.self.view_is))
     c.index.ensures (c.in_ok-judge_give.ensures.passes state stands)
@@ -53,9 +53,9 @@ returns-then-node-len-clause-ok g c state stands =
       (
         sink-takes state world w c.self.invariant.1 c.args.place c.args.node c.index.result.now
             (omega (arith, c.in_ok-judge_give.ensures.place, ap (λ (w : WorldData). length w.pool) c.self.view_is))
-            c.index.ensures (c.in_ok-judge_give.ensures.passes state stands) last c.in_ok-offer.ensures.room,
-        StandsFor-given_sink state world w c.args.node packet c.offer.new.self last c.in_ok-offer.ensures.session
-            c.in_ok-offer.ensures.ok,
+            c.index.ensures (c.in_ok-judge_give.ensures.passes state stands) last c.in_ok-offer.ensures.collects.room,
+        StandsFor-given_sink state world w c.args.node packet c.offer.new.self last c.in_ok-offer.ensures.collects.session
+            c.in_ok-offer.ensures.collects.stands,
       ),
     )
 
@@ -73,7 +73,7 @@ returns-in_err-offer-2-clause-cause g c =
     let packet : Packet = c.index.result.now.packet in
     let refused : Refuses (c.args.node - 1) packet c.in_err-offer-2.field-0.0 inside.mixers.items =
     subst (Refuses (c.args.node - 1) packet c.in_err-offer-2.field-0.0) c.deref_mut.ensures.value
-    (record { full = c.in_err-offer-2.ensures.full }) in
+    (record { full = c.in_err-offer-2.ensures.offers.full }) in
     cause-exit c.from_residual-in_err-offer-2.result c.in_err-offer-2.field-0.0
     (λ e. (state : NetworkState) → StandsFor state c.args.self.now → after_event state (Give c.args.place c.args.node) ≡ Err e)
     c.from_residual-in_err-offer-2.ensures.1
@@ -100,12 +100,9 @@ invariant_of-self-2 g c =
     let relays : List MixerData = c.offer-2.new.mixers in
     let gets : Gets (c.args.node - 1) packet c.in_ok-offer-2.field-0 relays inside.mixers.items =
     subst (Gets (c.args.node - 1) packet c.in_ok-offer-2.field-0 relays) c.deref_mut.ensures.value (record {
-      session = c.offer-2.ensures.session;
+      offers = c.in_ok-offer-2.ensures.offers;
       seed = c.offer-2.ensures.seed;
       sent = c.offer-2.ensures.sent;
-      became = c.in_ok-offer-2.ensures.taken;
-      ok = c.in_ok-offer-2.ensures.ok;
-      room = c.in_ok-offer-2.ensures.room;
       others = c.offer-2.ensures.others;
     }) in (
       c.self.invariant.0,
@@ -118,7 +115,7 @@ invariant_of-self-2 g c =
         sink = inside.sink;
       })) (sym (whole-written inside.mixers.len inside.mixers.items relays inside.mixers.ok.0 gets.others.count))
           (IsWorld-given world c.self.invariant.1 relays (c.args.node - 1)
-          (omega (arith, c.in_ok-judge_give.ensures.node, c.if-node-len.false, c.len.ensures)) gets.others gets.session gets.sent),
+          (omega (arith, c.in_ok-judge_give.ensures.node, c.if-node-len.false, c.len.ensures)) gets.others gets.offers.session gets.sent),
     )
 
 pub returns-clause-ok : goal.returns-clause-ok
@@ -137,12 +134,9 @@ returns-clause-ok g c state stands =
     let relays : List MixerData = c.offer-2.new.mixers in
     let gets : Gets (c.args.node - 1) packet c.in_ok-offer-2.field-0 relays inside.mixers.items =
     subst (Gets (c.args.node - 1) packet c.in_ok-offer-2.field-0 relays) c.deref_mut.ensures.value (record {
-      session = c.offer-2.ensures.session;
+      offers = c.in_ok-offer-2.ensures.offers;
       seed = c.offer-2.ensures.seed;
       sent = c.offer-2.ensures.sent;
-      became = c.in_ok-offer-2.ensures.taken;
-      ok = c.in_ok-offer-2.ensures.ok;
-      room = c.in_ok-offer-2.ensures.room;
       others = c.offer-2.ensures.others;
     }) in
     let low : 1 ≤ c.args.node = omega (arith, c.in_ok-judge_give.ensures.node) in
@@ -151,7 +145,7 @@ returns-clause-ok g c state stands =
       (
         relay-takes state world w c.self.invariant.1 c.args.place c.args.node c.index.result.now
             (omega (arith, c.in_ok-judge_give.ensures.place, ap (λ (w : WorldData). length w.pool) c.self.view_is))
-            c.index.ensures (c.in_ok-judge_give.ensures.passes state stands) low high c.in_ok-offer-2.field-0 gets.became gets.room,
+            c.index.ensures (c.in_ok-judge_give.ensures.passes state stands) low high c.in_ok-offer-2.field-0 gets.offers.taken gets.offers.room,
         subst (λ (r : List MixerData). StandsFor (with_given state c.args.node packet) (record {
           session = inside.session;
           file = inside.encoder.file;
@@ -161,6 +155,6 @@ returns-clause-ok g c state stands =
           sink = inside.sink;
         })) (sym (whole-written inside.mixers.len inside.mixers.items relays inside.mixers.ok.0 gets.others.count))
             (StandsFor-given_relay state world w c.args.node (c.args.node - 1) packet relays (omega (arith, low))
-            (omega (arith, low, high)) gets.others gets.session gets.seed gets.sent gets.ok),
+            (omega (arith, low, high)) gets.others gets.offers.session gets.seed gets.sent gets.offers.stands),
       ),
     )

@@ -1,0 +1,5 @@
+mod SymbolSums
+mod RightBodies
+mod RowSums
+mod VerdictLemmas
+mod ContributorRows
