@@ -1,3 +1,11 @@
+mod Layouts
+mod Records
+mod Stopping
+mod Sequences
+mod BodyParts
+mod WholeCertificates
+mod OneCertificate
+mod WrittenParts
 mod SymbolSums
 mod RightBodies
 mod RowSums

@@ -1,1 +1,4 @@
 pub mod Saying
+pub mod Parts
+pub mod Taken
+pub mod Written

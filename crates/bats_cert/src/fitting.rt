@@ -9,7 +9,7 @@ use bats_model::{Bytes, Packet, Session};
 use gf_rows::Matrix;
 
 // Packets that a certificate lists, at most.
-const MOST_LISTED: usize = 8193;
+pub(crate) const MOST_LISTED: usize = 8193;
 
 // Whether a packet is one of the session.
 fn has_shape(session: &Session, packet: &Packet) -> bool

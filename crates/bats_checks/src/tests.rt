@@ -17,4 +17,5 @@ mod scripts;
 mod sessions;
 mod solving;
 mod streams;
+mod stripes;
 mod words;

@@ -8,9 +8,8 @@ use Rattle.gf_core.specs.Rows.{column_of}
 use Rattle.gf_core.proofs.RowLemmas.{byte_at, length-column_of, get_or-column_of}
 use Rattle.gf_rows.specs.declared.operation.Op.{Op}
 use Rattle.gf_rows.specs.Matrix.{Grid, matrix_entry}
-use Rattle.gf_rows.specs.Operation.{FitsRows}
 use Rattle.gf_rows.specs.Plan.{plan_on_column}
-use Rattle.gf_rows.proofs.PlanLemmas.{column_of-plan_on_rows}
+use Rattle.bats_stripes.specs.Columns.{IsReplayed}
 use Rattle.bats_model.specs.Session.{SessionData}
 use Rattle.bats_model.specs.Symbol.{symbol_byte}
 use Rattle.bats_model.specs.Values.{packet_value, Satisfies}
@@ -19,7 +18,7 @@ use Rattle.bats_model.specs.PacketFile.{HasShape}
 use Rattle.bats_model.specs.Relay.{payloads_of}
 use Rattle.bats_model.specs.declared.packet.Packet.{Packet}
 use Rattle.bats_model.proofs.SymbolValues.{AreSameValues, packet_value-congruence}
-use Rattle.bats_decode.specs.steps.Replayed.{IsReplayed}
+use Rattle.bats_decode.specs.steps.Replayed.{payload_grid}
 
 -- the bytes of the payloads in a column
 abbrev pub payload_column : List Packet → ℕ → List ℕ
@@ -102,15 +101,7 @@ agreeing_of_columns session packets file is columns = record {
 -- ---- the payload rows after a plan
 
 -- an entry of the payload rows after the plan is one of its column after the plan
-pub entry_of_replayed : (session : SessionData) (packets : List Packet) (plan : List Op) (payload : Grid)
-    → All (HasShape session) packets → All (FitsRows (length packets)) plan → IsReplayed session.t packets plan payload
-    → (c : ℕ) → c < session.t → (r : ℕ) → matrix_entry payload r c ≡ get_or (plan_on_column plan (payload_column packets c)) r 0
-entry_of_replayed session packets plan payload shapes fits replayed c within r =
-    let widths : All (λ row. length row ≡ session.t) (payloads_of packets) =
-    All-map (λ row. length row ≡ session.t) (λ (packet : Packet). packet.payload) packets (λ i d l. (shapes i d l).payload) in
-    let fits_rows : All (FitsRows (length (payloads_of packets))) plan =
-    subst (λ (n : ℕ). All (FitsRows n) plan) (sym (length-map packets (λ (packet : Packet). packet.payload))) fits in
-    sym (get_or-column_of payload.rows c r)
-    ∙ (ap (λ (rows : List (List ℕ)). get_or (column_of rows c) r 0) replayed.rows
-    ∙ ap (λ (column : List ℕ). get_or column r 0)
-    (column_of-plan_on_rows plan (payloads_of packets) session.t c fits_rows widths within))
+pub entry_of_replayed : (t : ℕ) (packets : List Packet) (plan : List Op) (payload : Grid) → IsReplayed plan (payload_grid t packets) payload
+    → (c : ℕ) → c < t → (r : ℕ) → matrix_entry payload r c ≡ get_or (plan_on_column plan (payload_column packets c)) r 0
+entry_of_replayed t packets plan payload replayed c within r =
+    sym (get_or-column_of payload.rows c r) ∙ ap (λ (column : List ℕ). get_or column r 0) (replayed.columns c within)

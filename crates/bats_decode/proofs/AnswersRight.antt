@@ -14,6 +14,7 @@ use Rattle.gf_core.proofs.RowLemmas.{byte_at}
 use Rattle.gf_rows.specs.Matrix.{Grid, IsMatrix, matrix_entry, matrix_row}
 use Rattle.gf_rows.specs.Equations.{AreValues}
 use Rattle.gf_rows.specs.Plan.{plan_on_column}
+use Rattle.bats_stripes.specs.Columns.{IsReplayed}
 use Rattle.bats_model.specs.Session.{SessionData, IsSession, IsPadded, symbols_of}
 use Rattle.bats_model.specs.Symbol.{symbol_byte}
 use Rattle.bats_model.specs.Values.{Satisfies}
@@ -25,12 +26,12 @@ use Rattle.bats_model.specs.declared.answer.Answer.{Answer}
 use Rattle.bats_model.specs.declared.answer.Answer.TheVariants.{File, Inconsistent, NeedMore}
 use Rattle.bats_model.proofs.Files.{same-files}
 use Rattle.bats_decode.specs.SolvingPlan.{IsSolvingPlan, column_at}
-use Rattle.bats_decode.specs.declared.elimination.Place.{Place}
-use Rattle.bats_decode.specs.declared.elimination.Place.TheVariants.{Row, Free}
+use Rattle.bats_decode.specs.declared.elimination.Origin.{Origin}
+use Rattle.bats_decode.specs.declared.elimination.Origin.TheVariants.{Row, Free}
 use Rattle.bats_decode.specs.declared.elimination.Elimination.{Elimination}
-use Rattle.bats_decode.specs.steps.Eliminated.{IsEliminated, IsPlaceWithin, ComesFrom, AreZeroAfter, place_of, free_entry, free_sum, value_at, values_from}
-use Rattle.bats_decode.specs.steps.Replayed.{IsReplayed}
-use Rattle.bats_decode.specs.steps.Answered.{ZeroRowsHold, PaddingHolds, IsFound, IsRaised, AreFound, NoneIsOpen, IsAnswerOf, byte_at_place, change_at}
+use Rattle.bats_decode.specs.steps.Eliminated.{IsEliminated, IsOriginWithin, ComesFrom, AreZeroAfter, origin_of, free_entry, free_sum, value_at, values_from}
+use Rattle.bats_decode.specs.steps.Replayed.{payload_grid}
+use Rattle.bats_decode.specs.steps.Answered.{ZeroRowsHold, PaddingHolds, IsFound, IsRaised, AreFound, NoneIsOpen, IsAnswerOf, byte_from, change_at}
 use Rattle.bats_decode.proofs.AgreeingColumns.{payload_column, bytes_at, length-payload_column, payload_column-bytes, Satisfies-same, columns_of_agreeing, agreeing_of_columns, entry_of_replayed}
 
 -- ---- the values of free symbols
@@ -66,32 +67,32 @@ free_sum-one e r f within byte =
     (λ i b other. ap (gf_mul (free_entry e r i)) (one_at-other f i other) ∙ gf_mul-zero (free_entry e r i))
     ∙ (ap (gf_mul (free_entry e r f)) (one_at-same f f refl) ∙ gf_mul-one (free_entry e r f) byte)
 
--- ---- a symbol at a place, in a column
+-- ---- a symbol at an origin, in a column
 
 -- the column of the payload rows after the plan is this
 abbrev IsColumnOf : Grid → ℕ → List ℕ → Type 0
 IsColumnOf payload c after = (r : ℕ) → matrix_entry payload r c ≡ get_or after r 0
 
-abbrev IsUnchanged : Elimination → Place → Type 0
+abbrev IsUnchanged : Elimination → Origin → Type 0
 IsUnchanged e p = (i : ℕ) → i < length e.free → change_at e i p ≡ 0
 
-unchanged_value : (e : Elimination) (payload : Grid) (c rows : ℕ) (after : List ℕ) (v : ℕ → ℕ) (p : Place)
-    → IsPlaceWithin rows (length e.free) p → IsUnchanged e p → IsColumnOf payload c after
-    → value_at e after v p ≡ byte_at_place payload c p
+unchanged_value : (e : Elimination) (payload : Grid) (c rows : ℕ) (after : List ℕ) (v : ℕ → ℕ) (p : Origin)
+    → IsOriginWithin rows (length e.free) p → IsUnchanged e p → IsColumnOf payload c after
+    → value_at e after v p ≡ byte_from payload c p
 unchanged_value e payload c rows after v (Row r) within none entries =
     ap (gf_add (get_or after r 0)) (free_sum-unchanged e r v none) ∙ (gf_add-zero (get_or after r 0) ∙ sym (entries r))
 unchanged_value e payload c rows after v (Free i) within none entries =
     absurd (omega (arith, none i within, one_at-same i i refl))
 
-zero_value : (e : Elimination) (payload : Grid) (c : ℕ) (after : List ℕ) (p : Place) → IsColumnOf payload c after
-    → value_at e after (λ i. 0) p ≡ byte_at_place payload c p
+zero_value : (e : Elimination) (payload : Grid) (c : ℕ) (after : List ℕ) (p : Origin) → IsColumnOf payload c after
+    → value_at e after (λ i. 0) p ≡ byte_from payload c p
 zero_value e payload c after (Row r) entries =
     ap (gf_add (get_or after r 0)) (free_sum-zeros e r) ∙ (gf_add-zero (get_or after r 0) ∙ sym (entries r))
 zero_value e payload c after (Free i) entries = refl
 
-raised_value : (e : Elimination) (payload : Grid) (c f : ℕ) (after : List ℕ) (p : Place) → IsMatrix e.matrix
-    → IsPlaceWithin (length e.matrix.rows) (length e.free) p → f < length e.free → IsColumnOf payload c after
-    → value_at e after (one_at f) p ≡ gf_add (byte_at_place payload c p) (change_at e f p)
+raised_value : (e : Elimination) (payload : Grid) (c f : ℕ) (after : List ℕ) (p : Origin) → IsMatrix e.matrix
+    → IsOriginWithin (length e.matrix.rows) (length e.free) p → f < length e.free → IsColumnOf payload c after
+    → value_at e after (one_at f) p ≡ gf_add (byte_from payload c p) (change_at e f p)
 raised_value e payload c f after (Row r) matrix within free entries =
     let byte : free_entry e r f < 256 = byte_at (matrix_row e.matrix r) (get_or e.free f 0) (matrix.bytes r [] within) in
     ap (gf_add (get_or after r 0)) (free_sum-one e r f free byte)
@@ -132,7 +133,7 @@ record AreSolved (session : SessionData) (packets : List Packet) (e : Eliminatio
   is_session : IsSession session
   shapes : All (HasShape session) packets
   eliminated : IsEliminated session packets e
-  replayed : IsReplayed session.t packets e.plan payload
+  replayed : IsReplayed e.plan (payload_grid session.t packets) payload
 
 -- a payload column after the plan
 abbrev column_after : List Packet → Elimination → ℕ → List ℕ
@@ -141,7 +142,7 @@ column_after packets e c = plan_on_column e.plan (payload_column packets c)
 entries_after : (session : SessionData) (packets : List Packet) (e : Elimination) (payload : Grid)
     → AreSolved session packets e payload → (c : ℕ) → c < session.t → IsColumnOf payload c (column_after packets e c)
 entries_after session packets e payload h c within r =
-    entry_of_replayed session packets e.plan payload h.shapes h.eliminated.shape.fits h.replayed c within r
+    entry_of_replayed session.t packets e.plan payload h.replayed c within r
 
 zero_after : (session : SessionData) (packets : List Packet) (e : Elimination) (payload : Grid)
     → AreSolved session packets e payload → ZeroRowsHold e payload → (c : ℕ) → c < session.t
@@ -173,54 +174,54 @@ agreeing_zero session packets e payload h file agrees = λ i d within c l.
 -- an agreeing file's byte in a symbol that changes with no free one
 agreeing_byte : (session : SessionData) (packets : List Packet) (e : Elimination) (payload : Grid)
     → AreSolved session packets e payload → (file : List ℕ) → AgreesWithAll session packets file
-    → (s c : ℕ) → s < symbols_of session → c < session.t → IsUnchanged e (place_of e s)
-    → symbol_byte session file s c ≡ byte_at_place payload c (place_of e s)
+    → (s c : ℕ) → s < symbols_of session → c < session.t → IsUnchanged e (origin_of e s)
+    → symbol_byte session file s c ≡ byte_from payload c (origin_of e s)
 agreeing_byte session packets e payload h file agrees s c within l none =
     let come : ComesFrom session e (column_after packets e c) (bytes_at session file c) =
     h.eliminated.comes (payload_column packets c) (bytes_at session file c)
     (columns_of_agreeing session packets file agrees c l) in
     come.each s within
-    ∙ unchanged_value e payload c (length packets) (column_after packets e c) come.free (place_of e s)
-    (h.eliminated.shape.places_within s within) none (entries_after session packets e payload h c l)
+    ∙ unchanged_value e payload c (length packets) (column_after packets e c) come.free (origin_of e s)
+    (h.eliminated.shape.origins_within s within) none (entries_after session packets e payload h c l)
 
 -- an agreeing file's last symbol is 0 past the file's end
 agreeing_padding : (session : SessionData) (packets : List Packet) (e : Elimination) (payload : Grid)
     → AreSolved session packets e payload → (file : List ℕ) → AgreesWithAll session packets file
     → PaddingHolds session e payload
-agreeing_padding session packets e payload h file agrees = λ s r c last place past l.
+agreeing_padding session packets e payload h file agrees = λ s r c last origin past l.
     let within : s < symbols_of session = omega arith in
     let after : List ℕ = column_after packets e c in
     let come : ComesFrom session e after (bytes_at session file c) =
     h.eliminated.comes (payload_column packets c) (bytes_at session file c)
     (columns_of_agreeing session packets file agrees c l) in
     let none : free_sum e r come.free ≡ 0 = free_sum-unchanged e r come.free
-    (λ i b. h.eliminated.last s r i (padded session s c last l past) last place b) in
+    (λ i b. h.eliminated.last s r i (padded session s c last l past) last origin b) in
     let own : symbol_byte session file s c ≡ get_or after r 0 =
-    come.each s within ∙ (ap (value_at e after come.free) place
+    come.each s within ∙ (ap (value_at e after come.free) origin
     ∙ (ap (gf_add (get_or after r 0)) none ∙ gf_add-zero (get_or after r 0))) in
     entries_after session packets e payload h c l r
     ∙ (sym own ∙ get_or_past file (s * session.t + c) 0 (omega (arith, past, agrees.is_file.size)))
 
 -- ---- the found file
 
-padding_at_place : (session : SessionData) (e : Elimination) (payload : Grid) (s c : ℕ) (p : Place)
+padding_at_origin : (session : SessionData) (e : Elimination) (payload : Grid) (s c : ℕ) (p : Origin)
     → PaddingHolds session e payload → suc s ≡ symbols_of session → session.file_length ≤ s * session.t + c → c < session.t
-    → place_of e s ≡ p → byte_at_place payload c p ≡ 0
-padding_at_place session e payload s c (Row r) holds last past l place = holds s r c last place past l
-padding_at_place session e payload s c (Free i) holds last past l place = refl
+    → origin_of e s ≡ p → byte_from payload c p ≡ 0
+padding_at_origin session e payload s c (Row r) holds last past l origin = holds s r c last origin past l
+padding_at_origin session e payload s c (Free i) holds last past l origin = refl
 
 -- all bytes of its symbols, also those past its end
 found_byte : (session : SessionData) (e : Elimination) (payload : Grid) (file : List ℕ) → IsSession session
     → PaddingHolds session e payload → IsFound session e payload file
     → (s c : ℕ) → s < symbols_of session → c < session.t
-    → symbol_byte session file s c ≡ byte_at_place payload c (place_of e s)
+    → symbol_byte session file s c ≡ byte_from payload c (origin_of e s)
 found_byte session e payload file is holds found s c within l =
     elim (cases_lt (s * session.t + c) session.file_length) [
       | inl inside ↦ found.bytes s c within l inside
       | inr past ↦
           let last : suc s ≡ symbols_of session = last_symbol session s c (omega (arith, is.t_low)) within l past in
           get_or_past file (s * session.t + c) 0 (omega (arith, past, found.is_file.size))
-          ∙ sym (padding_at_place session e payload s c (place_of e s) holds last past l refl)
+          ∙ sym (padding_at_origin session e payload s c (origin_of e s) holds last past l refl)
     ]
 
 -- its bytes satisfy the packets in a column
@@ -232,7 +233,7 @@ found_column session packets e payload h hold padding file found c l =
     let after : List ℕ = column_after packets e c in
     Satisfies-same session packets (payload_column packets c) (values_from e after (λ i. 0)) (bytes_at session file c)
     (λ s within.
-    zero_value e payload c after (place_of e s) (entries_after session packets e payload h c l)
+    zero_value e payload c after (origin_of e s) (entries_after session packets e payload h c l)
     ∙ sym (found_byte session e payload file h.is_session padding found s c within l))
     (values_satisfy session packets e payload h hold c l (λ i. 0) (λ i b. lit< tt))
 
@@ -264,10 +265,10 @@ raised_column session packets e payload h hold padding f first second free found
     let shape = h.eliminated.shape in
     Satisfies-same session packets (payload_column packets 0) (values_from e after (one_at f)) (bytes_at session second 0)
     (λ s within.
-    raised_value e payload 0 f after (place_of e s) shape.matrix
-    (subst (λ (n : ℕ). IsPlaceWithin n (length e.free) (place_of e s)) (sym shape.row_count) (shape.places_within s within))
+    raised_value e payload 0 f after (origin_of e s) shape.matrix
+    (subst (λ (n : ℕ). IsOriginWithin n (length e.free) (origin_of e s)) (sym shape.row_count) (shape.origins_within s within))
     free (entries_after session packets e payload h 0 l)
-    ∙ (ap (λ (x : ℕ). gf_add x (change_at e f (place_of e s)))
+    ∙ (ap (λ (x : ℕ). gf_add x (change_at e f (origin_of e s)))
     (sym (found_byte session e payload first h.is_session padding found s 0 within l))
     ∙ sym (raised.front s within)))
     (values_satisfy session packets e payload h hold 0 l (one_at f) (λ i b. one_at-lt f i))
@@ -297,11 +298,11 @@ first_open session packets e payload h hold padding s first second found = recor
   second_agrees =
       raised_agrees session packets e payload h hold padding found.free first second found.opens.free found.found found.raised;
   differ = λ same. found.opens.changes
-      (nothing_added (symbol_byte session first s 0) (change_at e found.free (place_of e s))
+      (nothing_added (symbol_byte session first s 0) (change_at e found.free (origin_of e s))
       (same 0 (omega (arith, h.is_session.t_low)) ∙ found.raised.front s found.opens.symbol));
   same_below = λ one other one_agrees other_agrees k below c l.
       let within : k < symbols_of session = omega (arith, below, found.opens.symbol) in
-      let none : IsUnchanged e (place_of e k) = λ i b. found.opens.below k i below b in
+      let none : IsUnchanged e (origin_of e k) = λ i b. found.opens.below k i below b in
       agreeing_byte session packets e payload h one one_agrees k c within l none
       ∙ sym (agreeing_byte session packets e payload h other other_agrees k c within l none);
 }
@@ -325,26 +326,26 @@ right_of_solved session packets e payload h (NeedMore s first second) (hold, pad
 -- the answer is right
 pub answers-right : (session : SessionData) (packets : List Packet) (e : Elimination) (payload : Grid) (answer : Answer)
     → IsSession session → All (HasShape session) packets → IsEliminated session packets e
-    → IsReplayed session.t packets e.plan payload → IsAnswerOf session e payload answer
+    → IsReplayed e.plan (payload_grid session.t packets) payload → IsAnswerOf session e payload answer
     → IsRightAnswer session packets answer
 answers-right session packets e payload answer is shapes eliminated replayed h =
     right_of_solved session packets e payload
     (record { is_session = is; shapes = shapes; eliminated = eliminated; replayed = replayed }) answer h
 
-row_within : (e : Elimination) (rows r : ℕ) (p : Place) → p ≡ Row r → IsPlaceWithin rows (length e.free) p → r < rows
-row_within e rows r p at within = subst (IsPlaceWithin rows (length e.free)) at within
+row_within : (e : Elimination) (rows r : ℕ) (p : Origin) → p ≡ Row r → IsOriginWithin rows (length e.free) p → r < rows
+row_within e rows r p at within = subst (IsOriginWithin rows (length e.free)) at within
 
 -- where no symbol is open the plan solves the packets, with the rows of the symbols
 pub plan-solves : (session : SessionData) (packets : List Packet) (e : Elimination) → IsEliminated session packets e
     → NoneIsOpen session e → (rows : List ℕ) → length rows ≡ symbols_of session
-    → ((s : ℕ) → s < symbols_of session → place_of e s ≡ Row (get_or rows s 0))
+    → ((s : ℕ) → s < symbols_of session → origin_of e s ≡ Row (get_or rows s 0))
     → IsSolvingPlan session packets e.plan rows
 plan-solves session packets e eliminated none rows size at = record {
   fits = eliminated.shape.fits;
   size = size;
   within = All-from_get_or (λ r. r < length packets) rows 0 (λ s b.
       let within : s < symbols_of session = subst (λ (n : ℕ). s < n) size b in
-      row_within e (length packets) (get_or rows s 0) (place_of e s) (at s within) (eliminated.shape.places_within s within));
+      row_within e (length packets) (get_or rows s 0) (origin_of e s) (at s within) (eliminated.shape.origins_within s within));
   gives = λ x bytes s within.
       let column : List ℕ = column_at session packets x in
       let after : List ℕ = plan_on_column e.plan column in

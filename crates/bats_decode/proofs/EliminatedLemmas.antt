@@ -32,18 +32,18 @@ use Rattle.bats_dense.specs.Kept.{KeepsSolutions}
 use Rattle.bats_dense.specs.Completed.{free_value, IsCompleted}
 use Rattle.bats_dense.proofs.Completing.{gf_sum-split, Solves-completed}
 use Rattle.bats_dense.proofs.ResultLemmas.{ArePivots-last}
-use Rattle.bats_peel.specs.declared.peeled.Place.{Place as Left}
+use Rattle.bats_peel.specs.declared.peeled.Place.{Place}
 use Rattle.bats_peel.specs.declared.peeled.Place.TheVariants.{Row as OwnRow, Column}
 use Rattle.bats_peel.specs.declared.peeled.Peeled.{Peeled}
 use Rattle.bats_peel.specs.Peeled.{column_values, GiveSymbols, IsPeeled}
-use Rattle.bats_peel.specs.Peeled.{place_of as place_left}
-use Rattle.bats_decode.specs.declared.elimination.Place.{Place}
-use Rattle.bats_decode.specs.declared.elimination.Place.TheVariants.{Row, Free}
+use Rattle.bats_peel.specs.Peeled.{place_of}
+use Rattle.bats_decode.specs.declared.elimination.Origin.{Origin}
+use Rattle.bats_decode.specs.declared.elimination.Origin.TheVariants.{Row, Free}
 use Rattle.bats_decode.specs.declared.elimination.Elimination.{Elimination}
-use Rattle.bats_decode.specs.steps.Left.{AreOwnRows, place_after}
-use Rattle.bats_decode.specs.steps.Eliminated.{ArePlaces, place_of, IsPlaceWithin, IsShaped, free_entry, free_sum, value_at, values_from, AreZeroAfter, ComesFrom, IsEliminated}
+use Rattle.bats_decode.specs.steps.Left.{AreOwnRows, origin_after}
+use Rattle.bats_decode.specs.steps.Eliminated.{AreOrigins, origin_of, IsOriginWithin, IsShaped, free_entry, free_sum, value_at, values_from, AreZeroAfter, ComesFrom, IsEliminated}
 use Rattle.bats_decode.proofs.LeftLemmas.{left_kind, no_row_at_column, row-within, at-column, LastIs, last-column}
-use Rattle.bats_decode.proofs.PlaceLemmas.{pivot-apart}
+use Rattle.bats_decode.proofs.OriginLemmas.{pivot-apart}
 
 -- ---- the operations
 
@@ -59,36 +59,36 @@ both-plans first second one other = record {
   bytes = All-append HasByteFactor first second one.bytes other.bytes;
 }
 
--- ---- places
+-- ---- origins
 
-abbrev row_of : Place → ℕ
+abbrev row_of : Origin → ℕ
 row_of (Row r) = r
 row_of (Free i) = 0
 
-abbrev column_left : Left → ℕ
+abbrev column_left : Place → ℕ
 column_left (OwnRow r) = 0
 column_left (Column j) = j
 
-abbrev is_row : Place → ℕ
+abbrev is_row : Origin → ℕ
 is_row (Row r) = 1
 is_row (Free i) = 0
 
 -- by what was read: each list that was lent is that of the reduction
-pub ArePlaces-read : (count symbols : ℕ) (read_rows read_columns read_free rows columns free : List ℕ) (places : List Place)
+pub AreOrigins-read : (count symbols : ℕ) (read_rows read_columns read_free rows columns free : List ℕ) (origins : List Origin)
     → count ≡ symbols → read_rows ≡ rows → read_columns ≡ columns → read_free ≡ free
-    → ArePlaces count read_rows read_columns read_free places → ArePlaces symbols rows columns free places
-ArePlaces-read count symbols read_rows read_columns read_free rows columns free places e f g h placed =
-    subst (λ (n : ℕ). ArePlaces n rows columns free places) e
-    (subst (λ (xs : List ℕ). ArePlaces count xs columns free places) f
-    (subst (λ (xs : List ℕ). ArePlaces count read_rows xs free places) g
-    (subst (λ (xs : List ℕ). ArePlaces count read_rows read_columns xs places) h placed)))
+    → AreOrigins count read_rows read_columns read_free origins → AreOrigins symbols rows columns free origins
+AreOrigins-read count symbols read_rows read_columns read_free rows columns free origins e f g h placed =
+    subst (λ (n : ℕ). AreOrigins n rows columns free origins) e
+    (subst (λ (xs : List ℕ). AreOrigins count xs columns free origins) f
+    (subst (λ (xs : List ℕ). AreOrigins count read_rows xs free origins) g
+    (subst (λ (xs : List ℕ). AreOrigins count read_rows read_columns xs origins) h placed)))
 
--- the elimination that a reduction and the places give
-abbrev pub elimination_of : Dense → Vec Place Global → Elimination
-elimination_of dense places = record {
+-- the elimination that a reduction and the origins give
+abbrev pub elimination_of : Dense → Vec Origin Global → Elimination
+elimination_of dense origins = record {
   matrix = dense.matrix;
   plan = dense.plan;
-  places = places;
+  origins = origins;
   free = dense.free;
   zero_rows = dense.zero_rows;
 }
@@ -112,17 +112,17 @@ named xs s has = get_or_default xs has.0 0 s has.1 ∙ has.2
 
 -- ---- peeled and reduced
 
-module _ (session : SessionData) (received packets : List Packet) (peeled : Peeled) (dense : Dense) (columns : List Place)
-    (places : Vec Place Global) (others : List ℕ)
+module _ (session : SessionData) (received packets : List Packet) (peeled : Peeled) (dense : Dense) (columns : List Origin)
+    (origins : Vec Origin Global) (others : List ℕ)
     (listed : IsInactiveList session received peeled.inactive) (is : IsPeeled session packets peeled)
     (own : AreOwnRows (symbols_of session) peeled.places others) (reduced : IsReduced peeled.leftover others dense)
     (did : Performed peeled.leftover peeled.rows dense.matrix peeled.plan dense.plan)
     (keeps : KeepsSolutions peeled.leftover peeled.rows dense.matrix peeled.plan dense.plan)
     (fits : All (FitsRows (length dense.matrix.rows)) dense.plan)
-    (at_columns : ArePlaces (length peeled.columns) dense.pivot_rows dense.pivot_columns dense.free columns)
-    (placed : places.items ≡ map (λ s. place_after columns (place_left peeled.places s)) (range_with_len 0 (symbols_of session))) where
+    (at_columns : AreOrigins (length peeled.columns) dense.pivot_rows dense.pivot_columns dense.free columns)
+    (placed : origins.items ≡ map (λ s. origin_after columns (place_of peeled.places s)) (range_with_len 0 (symbols_of session))) where
   abbrev eliminated : Elimination
-  eliminated = elimination_of dense places
+  eliminated = elimination_of dense origins
 
   cols : dense.matrix.cols ≡ length peeled.columns
   cols = did.cols ∙ is.placed.cols
@@ -142,48 +142,48 @@ module _ (session : SessionData) (received packets : List Packet) (peeled : Peel
   pivot_row_within : (i : ℕ) → i < length dense.pivot_columns → get_or dense.pivot_rows i 0 < length packets
   pivot_row_within i h = left_within (get_or dense.pivot_rows i 0) (reduced.from_eqs i 0 (omega (arith, h, reduced.pivots.sizes)))
 
-  -- ---- the places of the symbols
+  -- ---- the origins of the symbols
 
-  place_at : (s : ℕ) → s < symbols_of session → place_of eliminated s ≡ place_after columns (place_left peeled.places s)
-  place_at s h =
-      ap (λ (ps : List Place). get_or ps s (Row 0)) placed ∙
-      get_or-map-range_with_len (λ k. place_after columns (place_left peeled.places k)) 0 (symbols_of session) s s (Row 0) h (omega arith)
+  origin_at : (s : ℕ) → s < symbols_of session → origin_of eliminated s ≡ origin_after columns (place_of peeled.places s)
+  origin_at s h =
+      ap (λ (ps : List Origin). get_or ps s (Row 0)) placed ∙
+      get_or-map-range_with_len (λ k. origin_after columns (place_of peeled.places k)) 0 (symbols_of session) s s (Row 0) h (omega arith)
 
-  place_at_own : (s r : ℕ) → s < symbols_of session → place_left peeled.places s ≡ OwnRow r → place_of eliminated s ≡ Row r
-  place_at_own s r h at = place_at s h ∙ ap (place_after columns) at
+  origin_at_own : (s r : ℕ) → s < symbols_of session → place_of peeled.places s ≡ OwnRow r → origin_of eliminated s ≡ Row r
+  origin_at_own s r h at = origin_at s h ∙ ap (origin_after columns) at
 
-  place_at_column : (s j : ℕ) → s < symbols_of session → place_left peeled.places s ≡ Column j
-      → place_of eliminated s ≡ get_or columns j (Row 0)
-  place_at_column s j h at = place_at s h ∙ ap (place_after columns) at
+  origin_at_column : (s j : ℕ) → s < symbols_of session → place_of peeled.places s ≡ Column j
+      → origin_of eliminated s ≡ get_or columns j (Row 0)
+  origin_at_column s j h at = origin_at s h ∙ ap (origin_after columns) at
 
-  -- the place of a column's symbol
-  place_of_column : (j : ℕ) → j < length peeled.columns → place_of eliminated (get_or peeled.columns j 0) ≡ get_or columns j (Row 0)
-  place_of_column j h = place_at_column (get_or peeled.columns j 0) j (is.placed.columns_below j 0 h) (is.placed.at_columns j h)
+  -- the origin of a column's symbol
+  origin_of_column : (j : ℕ) → j < length peeled.columns → origin_of eliminated (get_or peeled.columns j 0) ≡ get_or columns j (Row 0)
+  origin_of_column j h = origin_at_column (get_or peeled.columns j 0) j (is.placed.columns_below j 0 h) (is.placed.at_columns j h)
 
-  -- what holds of each symbol and its place: of one that has its own row, of one at a pivot column, and of a free one
-  by_kind : (P : ℕ → Place → Type 0)
-      → ((s r : ℕ) → s < symbols_of session → place_left peeled.places s ≡ OwnRow r → P s (Row r))
+  -- what holds of each symbol and its origin: of one that has its own row, of one at a pivot column, and of a free one
+  by_kind : (P : ℕ → Origin → Type 0)
+      → ((s r : ℕ) → s < symbols_of session → place_of peeled.places s ≡ OwnRow r → P s (Row r))
       → ((s i : ℕ) → i < length dense.pivot_columns → get_or peeled.columns (get_or dense.pivot_columns i 0) 0 ≡ s
       → P s (Row (get_or dense.pivot_rows i 0)))
       → ((s i : ℕ) → i < length dense.free → get_or peeled.columns (get_or dense.free i 0) 0 ≡ s → P s (Free i))
-      → (s : ℕ) → s < symbols_of session → P s (place_of eliminated s)
-  by_kind P of_own of_pivot of_free s h = elim (left_kind (place_left peeled.places s)) [
-    | inl left ↦ subst (P s) (sym (place_at_own s left.0 h left.1)) (of_own s left.0 h left.1)
+      → (s : ℕ) → s < symbols_of session → P s (origin_of eliminated s)
+  by_kind P of_own of_pivot of_free s h = elim (left_kind (place_of peeled.places s)) [
+    | inl left ↦ subst (P s) (sym (origin_at_own s left.0 h left.1)) (of_own s left.0 h left.1)
     | inr left ↦
         let j : ℕ = left.0 in
         let column = at-column session (length packets) peeled is.placed s j h left.1 in
         elim (reduced.columns.each j (subst (λ (n : ℕ). j < n) (sym cols) column.0)) [
           | inl has ↦
               let name : get_or dense.pivot_columns has.0 0 ≡ j = named dense.pivot_columns j has in
-              let place : place_of eliminated s ≡ Row (get_or dense.pivot_rows has.0 0) =
-              place_at_column s j h left.1 ∙ (ap (λ (k : ℕ). get_or columns k (Row 0)) (sym name) ∙ at_columns.pivots has.0 has.1) in
-              subst (P s) (sym place)
+              let origin : origin_of eliminated s ≡ Row (get_or dense.pivot_rows has.0 0) =
+              origin_at_column s j h left.1 ∙ (ap (λ (k : ℕ). get_or columns k (Row 0)) (sym name) ∙ at_columns.pivots has.0 has.1) in
+              subst (P s) (sym origin)
               (of_pivot s has.0 has.1 (ap (λ (k : ℕ). get_or peeled.columns k 0) name ∙ column.1))
           | inr has ↦
               let name : get_or dense.free has.0 0 ≡ j = named dense.free j has in
-              let place : place_of eliminated s ≡ Free has.0 =
-              place_at_column s j h left.1 ∙ (ap (λ (k : ℕ). get_or columns k (Row 0)) (sym name) ∙ at_columns.columns has.0 has.1) in
-              subst (P s) (sym place)
+              let origin : origin_of eliminated s ≡ Free has.0 =
+              origin_at_column s j h left.1 ∙ (ap (λ (k : ℕ). get_or columns k (Row 0)) (sym name) ∙ at_columns.columns has.0 has.1) in
+              subst (P s) (sym origin)
               (of_free s has.0 has.1 (ap (λ (k : ℕ). get_or peeled.columns k 0) name ∙ column.1))
         ]
   ]
@@ -192,10 +192,10 @@ module _ (session : SessionData) (received packets : List Packet) (peeled : Peel
   shape = record {
     matrix = IsMatrix-performed did is.placed.matrix;
     row_count = row_total;
-    places =
-        ap (λ (ps : List Place). length ps) placed ∙
-        length-map-range_with_len (λ s. place_after columns (place_left peeled.places s)) 0 (symbols_of session);
-    places_within = by_kind (λ s. IsPlaceWithin (length packets) (length dense.free))
+    origins =
+        ap (λ (ps : List Origin). length ps) placed ∙
+        length-map-range_with_len (λ s. origin_after columns (place_of peeled.places s)) 0 (symbols_of session);
+    origins_within = by_kind (λ s. IsOriginWithin (length packets) (length dense.free))
         (λ s r h at. row-within session (length packets) peeled is.placed s r h at)
         (λ s i h e. pivot_row_within i h)
         (λ s i h e. h);
@@ -223,7 +223,7 @@ module _ (session : SessionData) (received packets : List Packet) (peeled : Peel
       (ap (λ (x : ℕ). gf_add x (free_value dense y r)) at_pivots ∙ zero-gf_add (free_value dense y r))
 
   -- what it gives after the reduction
-  own_result : (after : List ℕ) (y : ℕ → ℕ) (s r : ℕ) → s < symbols_of session → place_left peeled.places s ≡ OwnRow r
+  own_result : (after : List ℕ) (y : ℕ → ℕ) (s r : ℕ) → s < symbols_of session → place_of peeled.places s ≡ OwnRow r
       → row_result dense.matrix after y r ≡ gf_add (get_or after r 0) (free_value dense y r)
   own_result after y s r h at = ap (gf_add (get_or after r 0)) (cleared_value y r (own.each s r h at))
 
@@ -254,7 +254,7 @@ module _ (session : SessionData) (received packets : List Packet) (peeled : Peel
         (λ i w. gf_mul-lt (free_entry eliminated r i) (v i) (below i w)))
 
     made_bytes : AreByteValues session made
-    made_bytes = by_kind (λ s place. value_at eliminated after v place < 256)
+    made_bytes = by_kind (λ s origin. value_at eliminated after v origin < 256)
         (λ s r h at. row_sum_bytes r)
         (λ s i h e. row_sum_bytes (get_or dense.pivot_rows i 0))
         (λ s i h e. below i h)
@@ -263,11 +263,11 @@ module _ (session : SessionData) (received packets : List Packet) (peeled : Peel
         ≡ gf_add (get_or after (get_or dense.pivot_rows i 0) 0) (free_sum eliminated (get_or dense.pivot_rows i 0) v)
     made_at_pivot i h =
         ap (value_at eliminated after v)
-        (place_of_column (get_or dense.pivot_columns i 0) (pivot_within i h) ∙ at_columns.pivots i h)
+        (origin_of_column (get_or dense.pivot_columns i 0) (pivot_within i h) ∙ at_columns.pivots i h)
 
     made_at_free : (i : ℕ) → i < length dense.free → made_column (get_or dense.free i 0) ≡ v i
     made_at_free i h =
-        ap (value_at eliminated after v) (place_of_column (get_or dense.free i 0) (free_within i h) ∙ at_columns.columns i h)
+        ap (value_at eliminated after v) (origin_of_column (get_or dense.free i 0) (free_within i h) ∙ at_columns.columns i h)
 
     made_sum : (r : ℕ) → free_sum eliminated r v ≡ free_value dense made_column r
     made_sum r =
@@ -290,7 +290,7 @@ module _ (session : SessionData) (received packets : List Packet) (peeled : Peel
 
     made_gives : AreZeroAfter eliminated after → GiveSymbols session peeled (plan_on_column peeled.plan column) made
     made_gives zeros s r h at =
-        ap (value_at eliminated after v) (place_at_own s r h at) ∙
+        ap (value_at eliminated after v) (origin_at_own s r h at) ∙
         (ap (gf_add (get_or after r 0)) (made_sum r) ∙
         (sym (own_result after made_column s r h at) ∙
         keeps.results column made_column r (long_as_rows column long) (column_values-bytes made made_bytes) (made_solves zeros)))
@@ -321,7 +321,7 @@ module _ (session : SessionData) (received packets : List Packet) (peeled : Peel
         ((keeps.solutions column y (long_as_rows column length_is) (column_bytes session packets column x satisfies)
         (column_values-bytes x satisfies.bytes)).0 peeled_both.1)
 
-    own_value : (s r : ℕ) → s < symbols_of session → place_left peeled.places s ≡ OwnRow r
+    own_value : (s r : ℕ) → s < symbols_of session → place_of peeled.places s ≡ OwnRow r
         → x s ≡ gf_add (get_or done r 0) (free_value dense y r)
     own_value s r h at =
         peeled_both.0 s r h at ∙
@@ -333,7 +333,7 @@ module _ (session : SessionData) (received packets : List Packet) (peeled : Peel
       free = λ i. y (get_or dense.free i 0);
       bytes = λ i h. satisfies.bytes (get_or peeled.columns (get_or dense.free i 0) 0)
           (is.placed.columns_below (get_or dense.free i 0) 0 (free_within i h));
-      each = by_kind (λ s place. x s ≡ value_at eliminated done (λ i. y (get_or dense.free i 0)) place)
+      each = by_kind (λ s origin. x s ≡ value_at eliminated done (λ i. y (get_or dense.free i 0)) origin)
           (λ s r h at. own_value s r h at)
           (λ s i h e. ap x (sym e) ∙ completed.pivots i h)
           (λ s i h e. ap x (sym e));
@@ -342,36 +342,36 @@ module _ (session : SessionData) (received packets : List Packet) (peeled : Peel
   -- ---- the last symbol of a padded session
 
   module _ (padded : IsPadded session) where
-    last_place : (s : ℕ) → suc s ≡ symbols_of session → LastIs peeled.columns s
-    last_place s last =
+    last_origin : (s : ℕ) → suc s ≡ symbols_of session → LastIs peeled.columns s
+    last_origin s last =
         subst (λ (xs : List ℕ). LastIs xs s) (sym is.placed.columns)
         (last-column session peeled.inactive s padded last listed.inactive.begins)
 
-    last_left : (s : ℕ) (last : suc s ≡ symbols_of session) → place_left peeled.places s ≡ Column (last_place s last).0
+    last_left : (s : ℕ) (last : suc s ≡ symbols_of session) → place_of peeled.places s ≡ Column (last_origin s last).0
     last_left s last =
-        let at : LastIs peeled.columns s = last_place s last in
-        ap (place_left peeled.places) (sym at.2) ∙ is.placed.at_columns at.0 (omega (arith, at.1))
+        let at : LastIs peeled.columns s = last_origin s last in
+        ap (place_of peeled.places) (sym at.2) ∙ is.placed.at_columns at.0 (omega (arith, at.1))
 
     -- where it is at a pivot column, that is the last
     pivot_is_last : (s p : ℕ) → p < length dense.pivot_columns → get_or peeled.columns (get_or dense.pivot_columns p 0) 0 ≡ s
-        → (last : suc s ≡ symbols_of session) → get_or dense.pivot_columns p 0 ≡ (last_place s last).0
+        → (last : suc s ≡ symbols_of session) → get_or dense.pivot_columns p 0 ≡ (last_origin s last).0
     pivot_is_last s p h e last =
         ap column_left
         (sym (is.placed.at_columns (get_or dense.pivot_columns p 0) (pivot_within p h)) ∙
-        (ap (place_left peeled.places) e ∙ last_left s last))
+        (ap (place_of peeled.places) e ∙ last_left s last))
 
   -- it is the last column, so its row is 0 at all others
   last_alone : IsPadded session → (s : ℕ) → s < symbols_of session → suc s ≡ symbols_of session → (r i : ℕ)
-      → place_of eliminated s ≡ Row r → i < length dense.free → free_entry eliminated r i ≡ 0
+      → origin_of eliminated s ≡ Row r → i < length dense.free → free_entry eliminated r i ≡ 0
   last_alone padded =
-      by_kind (λ s place. suc s ≡ symbols_of session → (r i : ℕ) → place ≡ Row r → i < length dense.free → free_entry eliminated r i ≡ 0)
-      (λ s k h own_at last r i at w. absurd (no_row_at_column (place_left peeled.places s) k (last_place padded s last).0 own_at (last_left padded s last)))
+      by_kind (λ s origin. suc s ≡ symbols_of session → (r i : ℕ) → origin ≡ Row r → i < length dense.free → free_entry eliminated r i ≡ 0)
+      (λ s k h own_at last r i at w. absurd (no_row_at_column (place_of peeled.places s) k (last_origin padded s last).0 own_at (last_left padded s last)))
       (λ s p h e last r i at w.
       let row : get_or dense.pivot_rows p 0 ≡ r = ap row_of at in
-      let column : get_or dense.pivot_columns p 0 ≡ (last_place padded s last).0 = pivot_is_last padded s p h e last in
+      let column : get_or dense.pivot_columns p 0 ≡ (last_origin padded s last).0 = pivot_is_last padded s p h e last in
       subst (λ (k : ℕ). matrix_entry dense.matrix k (get_or dense.free i 0) ≡ 0) row
       (ArePivots-last dense.matrix dense.pivot_rows dense.pivot_columns p (get_or dense.free i 0) reduced.pivots h
-      (omega (arith, column, (last_place padded s last).1, cols)) (reduced.columns.free_within i 0 w)
+      (omega (arith, column, (last_origin padded s last).1, cols)) (reduced.columns.free_within i 0 w)
       (λ f. pivot-apart dense.matrix.cols dense.pivot_columns dense.free p i reduced.columns h w (sym f))))
       (λ s k h e last r i at w.
       let bad : 0 ≡ 1 = ap is_row at in

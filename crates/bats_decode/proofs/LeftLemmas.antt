@@ -14,38 +14,38 @@ use Rattle.bats_model.specs.Session.{SessionData, IsPadded, symbols_of}
 use Rattle.bats_model.specs.Peeling.{first_inactive}
 use Rattle.bats_sampler.proofs.Unchosen.{length-unchosen}
 use Rattle.bats_dense.specs.Reduced.{AreTargets}
-use Rattle.bats_peel.specs.declared.peeled.Place.{Place as Left}
+use Rattle.bats_peel.specs.declared.peeled.Place.{Place}
 use Rattle.bats_peel.specs.declared.peeled.Place.TheVariants.{Row as OwnRow, Column}
 use Rattle.bats_peel.specs.declared.peeled.Peeled.{Peeled}
 use Rattle.bats_peel.specs.Peeled.{columns_of, StandsAt, IsPlaced}
-use Rattle.bats_peel.specs.Peeled.{place_of as place_left}
-use Rattle.bats_decode.specs.declared.elimination.Place.{Place}
-use Rattle.bats_decode.specs.steps.Left.{HaveOwnRows, HasSymbol, AreOwnRows, HaveColumns, place_after}
+use Rattle.bats_peel.specs.Peeled.{place_of}
+use Rattle.bats_decode.specs.declared.elimination.Origin.{Origin}
+use Rattle.bats_decode.specs.steps.Left.{HaveOwnRows, HasSymbol, AreOwnRows, HaveColumns, origin_after}
 
 -- ---- a place is a row or a column
 
-abbrev row_left : Left → ℕ
+abbrev row_left : Place → ℕ
 row_left (OwnRow r) = r
 row_left (Column j) = 0
 
-abbrev is_own_row : Left → ℕ
+abbrev is_own_row : Place → ℕ
 is_own_row (OwnRow r) = 1
 is_own_row (Column j) = 0
 
 -- the one or the other
-pub left_kind : (left : Left) → ((r : ℕ) × (left ≡ OwnRow r)) ⊎ ((j : ℕ) × (left ≡ Column j))
+pub left_kind : (left : Place) → ((r : ℕ) × (left ≡ OwnRow r)) ⊎ ((j : ℕ) × (left ≡ Column j))
 left_kind (OwnRow r) = inl (r, refl)
 left_kind (Column j) = inr (j, refl)
 
 -- and not both
-pub no_row_at_column : (left : Left) (r j : ℕ) → left ≡ OwnRow r → left ≡ Column j → ⊥
+pub no_row_at_column : (left : Place) (r j : ℕ) → left ≡ OwnRow r → left ≡ Column j → ⊥
 no_row_at_column left r j own at =
     let bad : 1 ≡ 0 = ap is_own_row (sym own ∙ at) in
     absurd (omega (arith, bad))
 
 -- ---- the rows of symbols, one symbol after another
 
-pub AreOwnRows-none : (left : List Left) (rows : List ℕ) → rows ≡ [] → AreOwnRows 0 left rows
+pub AreOwnRows-none : (left : List Place) (rows : List ℕ) → rows ≡ [] → AreOwnRows 0 left rows
 AreOwnRows-none left rows is =
     let none : AreOwnRows 0 left [] = record {
       are = All-nil (HasSymbol 0 left);
@@ -54,12 +54,12 @@ AreOwnRows-none left rows is =
     } in
     subst (AreOwnRows 0 left) (sym is) none
 
-has_later : (s : ℕ) (left : List Left) (r : ℕ) → HasSymbol s left r → HasSymbol (s + 1) left r
+has_later : (s : ℕ) (left : List Place) (r : ℕ) → HasSymbol s left r → HasSymbol (s + 1) left r
 has_later s left r has = record { symbol = has.symbol; within = omega (arith, has.within); at = has.at }
 
 -- one more symbol, which has a row
-pub AreOwnRows-row : (s n r : ℕ) (left : List Left) (rows after : List ℕ) → AreOwnRows s left rows → HaveOwnRows n left → s < n
-    → place_left left s ≡ OwnRow r → after ≡ rows ++ r ∷ [] → AreOwnRows (s + 1) left after
+pub AreOwnRows-row : (s n r : ℕ) (left : List Place) (rows after : List ℕ) → AreOwnRows s left rows → HaveOwnRows n left → s < n
+    → place_of left s ≡ OwnRow r → after ≡ rows ++ r ∷ [] → AreOwnRows (s + 1) left after
 AreOwnRows-row s n r left rows after state once within at is =
     let more : AreOwnRows (s + 1) left (rows ++ r ∷ []) = record {
       are = All-push (HasSymbol (s + 1) left) rows r
@@ -69,7 +69,7 @@ AreOwnRows-row s n r left rows after state once within at is =
         | inl before ↦ Contains-append_left rows (r ∷ []) k (state.each u k before own)
         | inr past ↦
             let e : u ≡ s = omega arith in
-            let same : r ≡ k = ap row_left (sym at ∙ (ap (place_left left) (sym e) ∙ own)) in
+            let same : r ≡ k = ap row_left (sym at ∙ (ap (place_of left) (sym e) ∙ own)) in
             subst (Contains (rows ++ r ∷ [])) same (Contains-push rows r)
       ];
       once = all_pairs_push (λ a b. a ≢ b) rows r state.once
@@ -81,7 +81,7 @@ AreOwnRows-row s n r left rows after state once within at is =
     subst (AreOwnRows (s + 1) left) (sym is) more
 
 -- one more symbol, which has a column
-pub AreOwnRows-column : (s j : ℕ) (left : List Left) (rows after : List ℕ) → AreOwnRows s left rows → place_left left s ≡ Column j
+pub AreOwnRows-column : (s j : ℕ) (left : List Place) (rows after : List ℕ) → AreOwnRows s left rows → place_of left s ≡ Column j
     → after ≡ rows → AreOwnRows (s + 1) left after
 AreOwnRows-column s j left rows after state at is =
     let more : AreOwnRows (s + 1) left rows = record {
@@ -90,31 +90,31 @@ AreOwnRows-column s j left rows after state at is =
         | inl before ↦ state.each u k before own
         | inr past ↦
             let e : u ≡ s = omega arith in
-            absurd (no_row_at_column (place_left left s) k j (ap (place_left left) (sym e) ∙ own) at)
+            absurd (no_row_at_column (place_of left s) k j (ap (place_of left) (sym e) ∙ own) at)
       ];
       once = state.once;
     } in
     subst (AreOwnRows (s + 1) left) (sym is) more
 
--- ---- the places of symbols, one symbol after another
+-- ---- the origins of symbols, one symbol after another
 
 -- one more symbol
-pub places-more : (columns : List Place) (left : List Left) (s : ℕ) (place : Place) (before after : List Place)
-    → after ≡ before ++ place ∷ [] → place ≡ place_after columns (place_left left s)
-    → before ≡ map (λ k. place_after columns (place_left left k)) (range_with_len 0 s)
-    → after ≡ map (λ k. place_after columns (place_left left k)) (range_with_len 0 (s + 1))
-places-more columns left s place before after more own so_far =
-    more ∙ (ap (λ (p : Place). before ++ p ∷ []) own ∙
-    (ap (λ (ps : List Place). ps ++ place_after columns (place_left left s) ∷ []) so_far ∙
-    sym (map-range_with_len_more (λ k. place_after columns (place_left left k)) 0 s s (omega arith))))
+pub origins-more : (columns : List Origin) (left : List Place) (s : ℕ) (origin : Origin) (before after : List Origin)
+    → after ≡ before ++ origin ∷ [] → origin ≡ origin_after columns (place_of left s)
+    → before ≡ map (λ k. origin_after columns (place_of left k)) (range_with_len 0 s)
+    → after ≡ map (λ k. origin_after columns (place_of left k)) (range_with_len 0 (s + 1))
+origins-more columns left s origin before after more own so_far =
+    more ∙ (ap (λ (p : Origin). before ++ p ∷ []) own ∙
+    (ap (λ (ps : List Origin). ps ++ origin_after columns (place_of left s) ∷ []) so_far ∙
+    sym (map-range_with_len_more (λ k. origin_after columns (place_of left k)) 0 s s (omega arith))))
 
 -- by what was read
-pub places-read : (count symbols : ℕ) (read columns : List Place) (left : List Left) (places : List Place) → count ≡ symbols → read ≡ columns
-    → places ≡ map (λ k. place_after read (place_left left k)) (range_with_len 0 count)
-    → places ≡ map (λ k. place_after columns (place_left left k)) (range_with_len 0 symbols)
-places-read count symbols read columns left places e f h =
-    subst (λ (n : ℕ). places ≡ map (λ k. place_after columns (place_left left k)) (range_with_len 0 n)) e
-    (subst (λ (ps : List Place). places ≡ map (λ k. place_after ps (place_left left k)) (range_with_len 0 count)) f h)
+pub origins-read : (count symbols : ℕ) (read columns : List Origin) (left : List Place) (origins : List Origin) → count ≡ symbols → read ≡ columns
+    → origins ≡ map (λ k. origin_after read (place_of left k)) (range_with_len 0 count)
+    → origins ≡ map (λ k. origin_after columns (place_of left k)) (range_with_len 0 symbols)
+origins-read count symbols read columns left origins e f h =
+    subst (λ (n : ℕ). origins ≡ map (λ k. origin_after columns (place_of left k)) (range_with_len 0 n)) e
+    (subst (λ (ps : List Origin). origins ≡ map (λ k. origin_after ps (place_of left k)) (range_with_len 0 count)) f h)
 
 -- ---- distinct numbers are no more than the numbers that they are below
 
@@ -186,12 +186,12 @@ module _ (session : SessionData) (rows : ℕ) (peeled : Peeled) (placed : IsPlac
       placed.cols ∙ (ap (λ (xs : List ℕ). length xs) placed.columns ∙ length-columns_of session peeled.inactive)
 
   -- a symbol that is left in a row stands in one of the matrix
-  pub row-within : (s r : ℕ) → s < symbols_of session → place_left peeled.places s ≡ OwnRow r → r < rows
+  pub row-within : (s r : ℕ) → s < symbols_of session → place_of peeled.places s ≡ OwnRow r → r < rows
   row-within s r h own =
       subst (λ (n : ℕ). r < n) placed.row_count (subst (StandsAt peeled s) own (placed.each s h))
 
   -- one that is left at a column has one of the columns
-  pub at-column : (s j : ℕ) → s < symbols_of session → place_left peeled.places s ≡ Column j
+  pub at-column : (s j : ℕ) → s < symbols_of session → place_of peeled.places s ≡ Column j
       → (j < length peeled.columns) × (get_or peeled.columns j 0 ≡ s)
   at-column s j h at = subst (StandsAt peeled s) at (placed.each s h)
 

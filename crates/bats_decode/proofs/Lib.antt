@@ -4,6 +4,7 @@ pub mod RaisedFiles
 pub mod PayloadLemmas
 pub mod EliminatedLemmas
 pub mod LeftLemmas
-pub mod PlaceLemmas
+pub mod OriginLemmas
+pub mod FlagLemmas
 pub mod Offering
 pub mod Solving

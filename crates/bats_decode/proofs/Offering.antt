@@ -1,7 +1,7 @@
 -- What a decoder stands for after one packet more, by what becomes of that packet.
-use Rattle.std.proofs.Common.{ℕ, ◌≡◌, ◌≢◌, ◌<◌, ◌+◌, ◌-◌, ◌^◌, ◌∙◌, ◌↔◌, ◌⊎◌, ap, sym, subst, refl, true, List, All, [], ◌∷◌, ◌++◌, length, take, map, min, arith, inl, inr, length-append, Result, Ok, Err}
+use Rattle.std.proofs.Common.{ℕ, ◌≡◌, ◌≢◌, ◌<◌, ◌+◌, ◌-◌, ◌^◌, ◌∙◌, ◌↔◌, ◌⊎◌, ap, sym, subst, refl, true, List, All, [], ◌∷◌, ◌++◌, length, min, arith, inl, inr, Result, Ok, Err}
 use Rattle.std.specs.Prelude.{IsErrAnd, ⊤}
-use Rattle.std.proofs.lemmas.List.{length_push, take_at}
+use Rattle.std.proofs.lemmas.List.{length_push}
 use Rattle.std.proofs.lemmas.List.Elements.{All-weaker}
 use Rattle.bats_model.specs.PacketFile.{HasShape}
 use Rattle.bats_model.specs.declared.packet.Packet.{Packet}

@@ -1,14 +1,10 @@
 -- The rows of kept packets, batch by batch: how many stand before a batch, and what is written once it is done.
-use Rattle.std.proofs.Common.{ℕ, ◌≡◌, ◌<◌, ◌≤◌, ◌+◌, ◌∙◌, sym, ap, subst, refl, List, [], ◌∷◌, ◌++◌, length, get_or, set, take, arith, append_assoc, append-nil}
-use Rattle.std.specs.Prelude.{All, flat_map, slice_get, Some}
+use Rattle.std.proofs.Common.{ℕ, ◌≡◌, ◌<◌, ◌≤◌, ◌+◌, ◌∙◌, sym, ap, refl, List, [], ◌∷◌, ◌++◌, length, get_or, set, take, arith, append_assoc, append-nil}
+use Rattle.std.specs.Prelude.{flat_map, slice_get, Some}
 use Rattle.std.proofs.lemmas.List.{take_more, take_more_set, take_all, map-append}
 use Rattle.std.proofs.lemmas.List.Sums.{sum_by_push, sum_by-take-le}
 use Rattle.std.proofs.lemmas.Grind.{flat_map-append}
 use Rattle.std.proofs.lemmas.Option.{slice_get_within, get_or_from_slice_get}
-use Rattle.gf_rows.specs.declared.operation.Op.{Op}
-use Rattle.gf_rows.specs.Operation.{FitsRows, op_on_rows}
-use Rattle.gf_rows.specs.Plan.{plan_on_rows}
-use Rattle.gf_rows.proofs.PlanLemmas.{plan_on_rows-push, length-plan_on_rows}
 use Rattle.bats_model.specs.declared.packet.Packet.{Packet}
 use Rattle.bats_batch.specs.Held.{HeldBatch, no_batch, batch_at, row_count, kept_packets}
 use Rattle.bats_model.specs.Relay.{payloads_of}
@@ -74,26 +70,3 @@ written-all first n batches rows all count size written =
     let whole : take n batches ≡ batches = take_all n batches all in
     let last : length rows ≤ first = omega (arith, count, size, ap row_count whole) in
     sym (take_all first rows last) ∙ written ∙ ap (λ (bs : List HeldBatch). payloads_of (kept_packets bs)) whole
-
--- ---- a plan so far
-
-pub plan-none : (plan : List Op) (rows : List (List ℕ)) → plan_on_rows (take 0 plan) rows ≡ rows
-unfolding plan_on_rows
-plan-none plan rows = refl
-
-pub plan-more : (plan : List Op) (i : ℕ) (op : Op) (before now after : List (List ℕ)) → slice_get plan i ≡ Some op
-    → now ≡ plan_on_rows (take i plan) before → after ≡ op_on_rows now op → after ≡ plan_on_rows (take (i + 1) plan) before
-plan-more plan i op before now after stands so_far does =
-    let own : get_or plan i op ≡ op = get_or_from_slice_get plan i op op stands in
-    let next : take (i + 1) plan ≡ take i plan ++ op ∷ [] =
-    take_more plan i op (slice_get_within plan i op stands) ∙ ap (λ (o : Op). take i plan ++ o ∷ []) own in
-    does ∙ ap (λ (rs : List (List ℕ)). op_on_rows rs op) so_far ∙ sym (plan_on_rows-push (take i plan) op before)
-    ∙ ap (λ (ops : List Op). plan_on_rows ops before) (sym next)
-
-pub fits-next : (plan : List Op) (i : ℕ) (op : Op) (before now : List (List ℕ)) → All (FitsRows (length before)) plan
-    → slice_get plan i ≡ Some op → now ≡ plan_on_rows (take i plan) before → FitsRows (length now) op
-fits-next plan i op before now fits stands so_far =
-    let size : length now ≡ length before = ap (λ (rs : List (List ℕ)). length rs) so_far ∙ length-plan_on_rows (take i plan) before in
-    let own : get_or plan i op ≡ op = get_or_from_slice_get plan i op op stands in
-    subst (λ (n : ℕ). FitsRows n op) (sym size)
-    (subst (FitsRows (length before)) own (fits i op (slice_get_within plan i op stands)))

@@ -4,10 +4,9 @@ use Rattle.std.proofs.lemmas.Bool.{false≢true}
 use Rattle.std.proofs.lemmas.List.{take_more, take_at, drop_at, length-map}
 use Rattle.std.proofs.lemmas.List.Elements.{All-nil, All-cons, All-head, All-tail, All-append, All-take, All-drop, All-from_get_or, All-weaker}
 use Rattle.std.proofs.lemmas.Grind.{flat_map-append}
-use Rattle.gf_rows.specs.Matrix.{Grid, IsMatrix}
+use Rattle.gf_rows.specs.Matrix.{Grid}
 use Rattle.gf_rows.specs.declared.operation.Op.{Op}
-use Rattle.gf_rows.specs.Plan.{plan_on_rows}
-use Rattle.gf_rows.proofs.PlanLemmas.{length-plan_on_rows}
+use Rattle.bats_stripes.specs.Columns.{IsReplayed}
 use Rattle.bats_model.specs.Session.{SessionData, symbols_of}
 use Rattle.bats_model.specs.Agreement.{Agrees, AgreesWithAll}
 use Rattle.bats_model.specs.Peeling.{IsInactiveList, largest_degree}
@@ -25,11 +24,11 @@ use Rattle.bats_batch.proofs.HeldBatches.{kept_at-stands}
 use Rattle.bats_peel.proofs.InactiveLists.{no_other_list}
 use Rattle.bats_decode.specs.Decoder.{DecoderData, StandsFor}
 use Rattle.bats_decode.specs.SolvingPlan.{PlanFollows}
-use Rattle.bats_decode.specs.declared.elimination.Place.{Place}
-use Rattle.bats_decode.specs.declared.elimination.Place.TheVariants.{Row, Free}
+use Rattle.bats_decode.specs.declared.elimination.Origin.{Origin}
+use Rattle.bats_decode.specs.declared.elimination.Origin.TheVariants.{Row, Free}
 use Rattle.bats_decode.specs.declared.elimination.Elimination.{Elimination}
-use Rattle.bats_decode.specs.steps.Eliminated.{IsEliminated, IsPlaceWithin, place_of}
-use Rattle.bats_decode.specs.steps.Replayed.{IsReplayed, payload_grid}
+use Rattle.bats_decode.specs.steps.Eliminated.{IsEliminated, IsOriginWithin, origin_of}
+use Rattle.bats_decode.specs.steps.Replayed.{payload_grid}
 use Rattle.bats_decode.specs.steps.Answered.{IsAnswerOf, NoneIsOpen, change_at}
 use Rattle.bats_decode.specs.steps.SymbolRows.{row_at, symbol_rows, rows_with}
 use Rattle.bats_decode.proofs.AnswersRight.{plan-solves}
@@ -116,78 +115,72 @@ right-of_kept packets decoder answer told stands right =
 
 -- the payload rows after the plan
 pub replayed-payloads : (t : ℕ) (packets : List Packet) (plan : List Op) (before after : Grid) → before ≡ payload_grid t packets
-    → IsMatrix after → after.cols ≡ before.cols → after.rows ≡ plan_on_rows plan before.rows → IsReplayed t packets plan after
-replayed-payloads t packets plan before after is matrix cols rows = record {
-  matrix = matrix;
-  cols = cols ∙ ap (λ (m : Grid). m.cols) is;
-  rows = rows ∙ ap (λ (m : Grid). plan_on_rows plan m.rows) is;
-}
+    → IsReplayed plan before after → IsReplayed plan (payload_grid t packets) after
+replayed-payloads t packets plan before after is replayed = subst (λ (m : Grid). IsReplayed plan m after) is replayed
 
-pub length-replayed : (t : ℕ) (packets : List Packet) (plan : List Op) (before after : Grid) → before ≡ payload_grid t packets
-    → after.rows ≡ plan_on_rows plan before.rows → length after.rows ≡ length packets
-length-replayed t packets plan before after is rows =
-    ap (λ (rs : List (List ℕ)). length rs) rows ∙ length-plan_on_rows plan before.rows ∙ ap (λ (m : Grid). length m.rows) is
-    ∙ length-map packets (λ (packet : Packet). packet.payload)
+pub length-replayed : (t : ℕ) (packets : List Packet) (plan : List Op) (after : Grid) → IsReplayed plan (payload_grid t packets) after
+    → length after.rows ≡ length packets
+length-replayed t packets plan after replayed = replayed.count ∙ length-map packets (λ (packet : Packet). packet.payload)
 
 -- ---- the rows of the symbols
 
-pub symbol_rows-none : (places : List Place) → symbol_rows (take 0 places) ≡ []
+pub symbol_rows-none : (origins : List Origin) → symbol_rows (take 0 origins) ≡ []
 unfolding symbol_rows
-symbol_rows-none places = refl
+symbol_rows-none origins = refl
 
-pub symbol_rows-more : (places : List Place) (i : ℕ) (d place : Place) (before after : List ℕ) → i < length places
-    → get_or places i d ≡ place → before ≡ symbol_rows (take i places) → after ≡ before ++ row_at place
-    → after ≡ symbol_rows (take (i + 1) places)
+pub symbol_rows-more : (origins : List Origin) (i : ℕ) (d origin : Origin) (before after : List ℕ) → i < length origins
+    → get_or origins i d ≡ origin → before ≡ symbol_rows (take i origins) → after ≡ before ++ row_at origin
+    → after ≡ symbol_rows (take (i + 1) origins)
 unfolding symbol_rows
-symbol_rows-more places i d place before after within own so_far more =
-    let next : take (i + 1) places ≡ take i places ++ place ∷ [] =
-    take_more places i d within ∙ ap (λ (p : Place). take i places ++ p ∷ []) own in
-    more ∙ ap (λ (rs : List ℕ). rs ++ row_at place) so_far
-    ∙ ap (λ (rs : List ℕ). symbol_rows (take i places) ++ rs) (sym (append-nil (row_at place)))
-    ∙ sym (ap symbol_rows next ∙ flat_map-append row_at (take i places) (place ∷ []))
+symbol_rows-more origins i d origin before after within own so_far more =
+    let next : take (i + 1) origins ≡ take i origins ++ origin ∷ [] =
+    take_more origins i d within ∙ ap (λ (p : Origin). take i origins ++ p ∷ []) own in
+    more ∙ ap (λ (rs : List ℕ). rs ++ row_at origin) so_far
+    ∙ ap (λ (rs : List ℕ). symbol_rows (take i origins) ++ rs) (sym (append-nil (row_at origin)))
+    ∙ sym (ap symbol_rows next ∙ flat_map-append row_at (take i origins) (origin ∷ []))
 
--- the place is a row
-abbrev IsRow : Place → Type 0
+-- the origin is a row
+abbrev IsRow : Origin → Type 0
 IsRow (Row r) = Unit {0}
 IsRow (Free i) = ⊥
 
--- these are the rows of the places
-abbrev AreRowsOf : List Place → Place → List ℕ → Type 0
-AreRowsOf places d rows = (s : ℕ) → s < length places → get_or places s d ≡ Row (get_or rows s 0)
+-- these are the rows of the origins
+abbrev AreRowsOf : List Origin → Origin → List ℕ → Type 0
+AreRowsOf origins d rows = (s : ℕ) → s < length origins → get_or origins s d ≡ Row (get_or rows s 0)
 
-AreRowsOf-more : (r : ℕ) (places : List Place) (d : Place) (rows : List ℕ) → AreRowsOf places d rows
-    → AreRowsOf (Row r ∷ places) d (r ∷ rows)
-AreRowsOf-more r places d rows are zero within = refl
-AreRowsOf-more r places d rows are (suc s) within = are s (omega (arith, within))
+AreRowsOf-more : (r : ℕ) (origins : List Origin) (d : Origin) (rows : List ℕ) → AreRowsOf origins d rows
+    → AreRowsOf (Row r ∷ origins) d (r ∷ rows)
+AreRowsOf-more r origins d rows are zero within = refl
+AreRowsOf-more r origins d rows are (suc s) within = are s (omega (arith, within))
 
-rows-of_places : (places : List Place) (d : Place) → ((s : ℕ) → s < length places → IsRow (get_or places s d))
-    → (length (symbol_rows places) ≡ length places) × AreRowsOf places d (symbol_rows places)
+rows-of_origins : (origins : List Origin) (d : Origin) → ((s : ℕ) → s < length origins → IsRow (get_or origins s d))
+    → (length (symbol_rows origins) ≡ length origins) × AreRowsOf origins d (symbol_rows origins)
 unfolding symbol_rows
-rows-of_places [] d each = (refl, λ s within. absurd (omega (arith, within)))
-rows-of_places (Row r ∷ places) d each =
-    let rest = rows-of_places places d (λ s within. each (suc s) (omega (arith, within))) in
-    (omega (arith, rest.0), AreRowsOf-more r places d (symbol_rows places) rest.1)
-rows-of_places (Free i ∷ places) d each = absurd (each 0 (omega arith))
+rows-of_origins [] d each = (refl, λ s within. absurd (omega (arith, within)))
+rows-of_origins (Row r ∷ origins) d each =
+    let rest = rows-of_origins origins d (λ s within. each (suc s) (omega (arith, within))) in
+    (omega (arith, rest.0), AreRowsOf-more r origins d (symbol_rows origins) rest.1)
+rows-of_origins (Free i ∷ origins) d each = absurd (each 0 (omega arith))
 
 -- where no symbol changes with a free one, each has a row
 row-none_open : (session : SessionData) (packets : List Packet) (e : Elimination) → IsEliminated session packets e → NoneIsOpen session e
-    → (s : ℕ) → s < symbols_of session → (place : Place) → place_of e s ≡ place → IsRow place
+    → (s : ℕ) → s < symbols_of session → (origin : Origin) → origin_of e s ≡ origin → IsRow origin
 row-none_open session packets e eliminated none s within (Row r) at = tt
 row-none_open session packets e eliminated none s within (Free i) at =
     let below : i < length e.free =
-    subst (IsPlaceWithin (length packets) (length e.free)) at (eliminated.shape.places_within s within) in
-    let nothing : change_at e i (Free i) ≡ 0 = subst (λ (p : Place). change_at e i p ≡ 0) at (none s i within below) in
+    subst (IsOriginWithin (length packets) (length e.free)) at (eliminated.shape.origins_within s within) in
+    let nothing : change_at e i (Free i) ≡ 0 = subst (λ (p : Origin). change_at e i p ≡ 0) at (none s i within below) in
     let one : change_at e i (Free i) ≡ 1 = ap (λ (b : Bool). cond b 1 0) (eq-eqb i i refl) in
     omega (arith, nothing, one)
 
 pub plan-follows : (session : SessionData) (packets : List Packet) (e : Elimination) (payload : Grid) (answer : Answer) (rows : List ℕ)
-    → IsEliminated session packets e → IsAnswerOf session e payload answer → rows ≡ rows_with e.places.items answer
+    → IsEliminated session packets e → IsAnswerOf session e payload answer → rows ≡ rows_with e.origins.items answer
     → PlanFollows session packets e.plan rows answer
 plan-follows session packets e payload (File file) rows eliminated (hold, padding, found, none) is =
-    let places : List Place = e.places.items in
-    let size : length places ≡ symbols_of session = eliminated.shape.places in
-    let both = rows-of_places places (Row 0)
-    (λ s within. row-none_open session packets e eliminated none s (subst (λ (n : ℕ). s < n) size within) (place_of e s) refl) in
+    let origins : List Origin = e.origins.items in
+    let size : length origins ≡ symbols_of session = eliminated.shape.origins in
+    let both = rows-of_origins origins (Row 0)
+    (λ s within. row-none_open session packets e eliminated none s (subst (λ (n : ℕ). s < n) size within) (origin_of e s) refl) in
     plan-solves session packets e eliminated none rows (ap (λ (rs : List ℕ). length rs) is ∙ both.0 ∙ size)
     (λ s within. both.1 s (subst (λ (n : ℕ). s < n) (sym size) within) ∙ ap (λ (rs : List ℕ). Row (get_or rs s 0)) (sym is))
 plan-follows session packets e payload Inconsistent rows eliminated right is = is

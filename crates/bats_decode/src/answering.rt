@@ -1,18 +1,22 @@
 //! The answer that the elimination and the payload rows after its plan give.
 ghost use Rattle.std.specs.Prelude.{ℕ, ◌≡◌, ◌≢◌, ◌<◌, ◌≤◌, ◌+◌, ◌*◌, ◌↔◌, ◌⊎◌, IsTrue, IfOk, MatchOption, All, length, slice_index, slice_index_or, slice_set};
+ghost use Rattle.std.specs.List.{AllZip};
 ghost use Rattle.gf_core.specs.Field.{gf_add};
-ghost use Rattle.gf_rows.specs.Matrix.{IsMatrix, matrix_entry};
+ghost use Rattle.gf_rows.specs.Matrix.{matrix_entry};
+ghost use Rattle.bats_stripes.specs.Columns.{IsZeroRow};
 ghost use Rattle.bats_model.specs.Session.{symbols_of};
 ghost use Rattle.bats_model.specs.Agreement.{IsFile};
-ghost use Rattle.bats_decode.specs.declared.elimination.Place.TheVariants.{Row};
-ghost use Rattle.bats_decode.specs.steps.Eliminated.{IsShaped, IsPlaceWithin, place_of};
-ghost use Rattle.bats_decode.specs.steps.Answered.{IsAnswerOf, PaddingHolds, IsFound, IsRaised, OpensFirst, NoneIsOpen, byte_at_place, change_at};
+ghost use Rattle.bats_decode.specs.declared.elimination.Origin.TheVariants.{Row};
+ghost use Rattle.bats_decode.specs.steps.Eliminated.{IsShaped, IsOriginWithin, origin_of};
+ghost use Rattle.bats_decode.specs.steps.Answered.{IsAnswerOf, PaddingHolds, IsFound, IsRaised, OpensFirst, NoneIsOpen, byte_from, change_at};
 
-use crate::elimination::{Elimination, Place};
-use crate::payload_rows::PayloadRows;
+use crate::elimination::{Elimination, Origin};
 use bats_model::{Answer, Bytes, Session};
+use bats_stripes::Payload;
 use gf_rows::Matrix;
+use rayon::prelude::*;
 use std::alloc::{AllocError, Global};
+use std::thread::Threads;
 
 // A symbol that the packets leave open, and a free symbol with which it changes.
 #[derive(Clone, Copy)]
@@ -21,22 +25,50 @@ struct Open {
     free: usize,
 }
 
-// Whether each of these rows is 0.
-fn rows_are_zero(payload: &PayloadRows, rows: &[u32]) -> bool
+// Which of these rows are 0, in their order, from as many threads as there are processors.
+fn are_zero<R: Threads + Sync>(
+    rt: &R,
+    alloc: Global,
+    payload: &Payload,
+    rows: &[u32],
+) -> Result<Vec<bool>, AllocError>
     requires { All (λ r. r < length payload.now.rows) rows.now }
-    ensures { IsTrue result
-        ↔ All (λ r. (c : ℕ) → c < payload.now.cols → matrix_entry payload.now r c ≡ 0) rows.now }
+    ensures { IfOk result (λ flags. AllZip (λ r zero. IsTrue zero ↔ IsZeroRow payload.now r) rows.now flags.items) }
 {
-    'rows: for (i, r) in rows.iter().enumerate() {
-        if !payload.row_is_zero(*r) {
-            return false;
-        }
-    }
-    true
+    rows.par_iter()
+        .map(
+            |r: &u32| -> bool
+                requires { r.now < length payload.now.rows }
+                ensures { IsTrue result ↔ IsZeroRow payload.entry.now r.now }
+            { payload.row_is_zero(*r) },
+        )
+        .collect(rt, alloc)
+}
+
+// Whether all flags are set.
+fn all_set(flags: &[bool]) -> bool
+    ensures { IsTrue result ↔ All IsTrue flags.now }
+{
+    flags.iter().all(|flag| *flag)
+}
+
+// Whether each of these rows is 0.
+fn rows_are_zero<R: Threads + Sync>(
+    rt: &R,
+    alloc: Global,
+    payload: &Payload,
+    rows: &[u32],
+) -> Result<bool, AllocError>
+    requires { All (λ r. r < length payload.now.rows) rows.now }
+    ensures { IfOk result (λ zero. IsTrue zero
+        ↔ All (λ r. (c : ℕ) → c < payload.now.cols → matrix_entry payload.now r c ≡ 0) rows.now) }
+{
+    let flags = are_zero(rt, alloc, payload, rows)?;
+    Ok(all_set(flags.as_slice()))
 }
 
 // Whether row `r` is 0 from byte `first` on, of `t` bytes.
-fn is_zero_from(payload: &PayloadRows, r: u32, first: u32, t: u32) -> bool
+fn is_zero_from(payload: &Payload, r: u32, first: u32, t: u32) -> bool
     requires row { r < length payload.now.rows }
     requires columns { t ≡ payload.now.cols }
     ensures { IsTrue result ↔ ((c : ℕ) → first ≤ c → c < t → matrix_entry payload.now r c ≡ 0) }
@@ -50,7 +82,7 @@ fn is_zero_from(payload: &PayloadRows, r: u32, first: u32, t: u32) -> bool
 }
 
 // Whether the last symbol's row, if it has one, is 0 from the file's end on.
-fn padding_is_zero(session: &Session, e: &Elimination, payload: &PayloadRows) -> bool
+fn padding_is_zero(session: &Session, e: &Elimination, payload: &Payload) -> bool
     requires shape { IsShaped session.now (length payload.now.rows) e.now }
     requires columns { payload.now.cols ≡ session.now.t }
     ensures { IsTrue result ↔ PaddingHolds session.now e.now payload.now }
@@ -61,52 +93,52 @@ fn padding_is_zero(session: &Session, e: &Elimination, payload: &PayloadRows) ->
         return true;
     }
     let last = session.symbols() - 1;
-    match e.places[last as usize] {
-        Place::Row(r) => is_zero_from(payload, r, end as u32, t as u32),
-        Place::Free(_) => true,
+    match e.origins[last as usize] {
+        Origin::Row(r) => is_zero_from(payload, r, end as u32, t as u32),
+        Origin::Free(_) => true,
     }
 }
 
 // Writes a symbol to its part of the file, which is 0, where it has a row.
-fn write_symbol(part: &mut [u8], payload: &PayloadRows, place: Place)
-    requires place { (r : ℕ) → place ≡ Row r → r < length payload.now.rows }
+fn write_symbol(part: &mut [u8], payload: &Payload, origin: Origin)
+    requires origin { (r : ℕ) → origin ≡ Row r → r < length payload.now.rows }
     requires width { length part.old ≡ payload.now.cols }
     requires zeros { (c : ℕ) → c < payload.now.cols → slice_index part.old c ≡ 0 }
     ensures width { length part.new ≡ payload.now.cols }
     ensures bytes { (c : ℕ) → c < payload.now.cols
-        → slice_index part.new c ≡ byte_at_place payload.now c place }
+        → slice_index part.new c ≡ byte_from payload.now c origin }
 {
-    if let Place::Row(r) = place {
+    if let Origin::Row(r) = origin {
         payload.copy_row_to(r, part);
     }
 }
 
 // Writes a symbol to the file's part from byte `start` on, which is 0.
-fn write_symbol_at(file: &mut [u8], start: usize, t: usize, payload: &PayloadRows, place: Place)
-    requires place { (r : ℕ) → place ≡ Row r → r < length payload.now.rows }
+fn write_symbol_at(file: &mut [u8], start: usize, t: usize, payload: &Payload, origin: Origin)
+    requires origin { (r : ℕ) → origin ≡ Row r → r < length payload.now.rows }
     requires width { t ≡ payload.now.cols }
     requires inside { start + t ≤ length file.old }
     requires zeros { (c : ℕ) → c < t → slice_index file.old (start + c) ≡ 0 }
     ensures length { length file.new ≡ length file.old }
-    ensures inside { (c : ℕ) → c < t → slice_index file.new (start + c) ≡ byte_at_place payload.now c place }
+    ensures inside { (c : ℕ) → c < t → slice_index file.new (start + c) ≡ byte_from payload.now c origin }
     ensures outside { (i : ℕ) → ((i < start) ⊎ (start + t ≤ i)) → slice_index file.new i ≡ slice_index file.old i }
 {
-    write_symbol(&mut file[start..start + t], payload, place);
+    write_symbol(&mut file[start..start + t], payload, origin);
 }
 
 // Writes each symbol to its part of a file of zeros.
-fn write_symbols(file: &mut [u8], t: usize, payload: &PayloadRows, places: &[Place])
-    requires places { (s r : ℕ) → s < length places.now → slice_index_or places.now s (Row 0) ≡ Row r
+fn write_symbols(file: &mut [u8], t: usize, payload: &Payload, origins: &[Origin])
+    requires origins { (s r : ℕ) → s < length origins.now → slice_index_or origins.now s (Row 0) ≡ Row r
         → r < length payload.now.rows }
     requires width { t ≡ payload.now.cols }
-    requires length { length file.old ≡ length places.now * t }
+    requires length { length file.old ≡ length origins.now * t }
     requires zeros { (i : ℕ) → slice_index file.old i ≡ 0 }
     ensures length { length file.new ≡ length file.old }
-    ensures bytes { (s c : ℕ) → s < length places.now → c < t
-        → slice_index file.new (s * t + c) ≡ byte_at_place payload.now c (slice_index_or places.now s (Row 0)) }
+    ensures bytes { (s c : ℕ) → s < length origins.now → c < t
+        → slice_index file.new (s * t + c) ≡ byte_from payload.now c (slice_index_or origins.now s (Row 0)) }
 {
-    'symbols: for s in 0..places.len() {
-        write_symbol_at(file, s * t, t, payload, places[s]);
+    'symbols: for s in 0..origins.len() {
+        write_symbol_at(file, s * t, t, payload, origins[s]);
     }
 }
 
@@ -115,7 +147,7 @@ fn found_file(
     alloc: Global,
     session: &Session,
     e: &Elimination,
-    payload: &PayloadRows,
+    payload: &Payload,
 ) -> Result<Bytes, AllocError>
     requires shape { IsShaped session.now (length payload.now.rows) e.now }
     requires columns { payload.now.cols ≡ session.now.t }
@@ -123,7 +155,7 @@ fn found_file(
 {
     let t = usize::from(session.t());
     let mut file = vec![in alloc; 0; session.symbols() as usize * t]?;
-    write_symbols(&mut file, t, payload, &e.places);
+    write_symbols(&mut file, t, payload, &e.origins);
     file.truncate(session.length() as usize);
     let bytes = Bytes::from(file);
     let _are_bytes = bytes.as_slice();
@@ -146,17 +178,17 @@ fn first_change(matrix: &Matrix, r: u32, free: &[u32]) -> Option<usize>
     None
 }
 
-// The free symbol with which a symbol at this place changes, if it does.
-fn opens(e: &Elimination, place: Place) -> Option<usize>
-    requires place { IsPlaceWithin (length e.now.matrix.rows) (length e.now.free) place }
+// The free symbol with which a symbol at this origin changes, if it does.
+fn opens(e: &Elimination, origin: Origin) -> Option<usize>
+    requires origin { IsOriginWithin (length e.now.matrix.rows) (length e.now.free) origin }
     requires columns { All (λ c. c < e.now.matrix.cols) e.now.free }
     ensures { MatchOption result
-        ((i : ℕ) → i < length e.now.free → change_at e.now i place ≡ 0)
-        (λ i. (i < length e.now.free) × (change_at e.now i place ≢ 0)) }
+        ((i : ℕ) → i < length e.now.free → change_at e.now i origin ≡ 0)
+        (λ i. (i < length e.now.free) × (change_at e.now i origin ≢ 0)) }
 {
-    match place {
-        Place::Row(r) => first_change(&e.matrix, r, e.free.as_slice()),
-        Place::Free(i) => Some(i as usize),
+    match origin {
+        Origin::Row(r) => first_change(&e.matrix, r, e.free.as_slice()),
+        Origin::Free(i) => Some(i as usize),
     }
 }
 
@@ -168,23 +200,23 @@ fn first_open(session: &Session, e: &Elimination) -> Option<Open>
         (λ opened. OpensFirst session.now e.now opened.symbol opened.free) }
 {
     'symbols: for s in 0..session.symbols() {
-        if let Some(free) = opens(e, e.places[s as usize]) {
+        if let Some(free) = opens(e, e.origins[s as usize]) {
             return Some(Open { symbol: s, free });
         }
     }
     None
 }
 
-// By how much a symbol at this place changes with free symbol `free`.
-fn change_of(e: &Elimination, free: usize, place: Place) -> u8
-    requires place { IsPlaceWithin (length e.now.matrix.rows) (length e.now.free) place }
+// By how much a symbol at this origin changes with free symbol `free`.
+fn change_of(e: &Elimination, free: usize, origin: Origin) -> u8
+    requires origin { IsOriginWithin (length e.now.matrix.rows) (length e.now.free) origin }
     requires columns { All (λ c. c < e.now.matrix.cols) e.now.free }
     requires free { free < length e.now.free }
-    ensures { result ≡ change_at e.now free place }
+    ensures { result ≡ change_at e.now free origin }
 {
-    match place {
-        Place::Row(r) => e.matrix.get(r, e.free.as_slice()[free]).byte(),
-        Place::Free(i) => u8::from(i as usize == free),
+    match origin {
+        Origin::Row(r) => e.matrix.get(r, e.free.as_slice()[free]).byte(),
+        Origin::Free(i) => u8::from(i as usize == free),
     }
 }
 
@@ -203,13 +235,13 @@ fn raise(file: &mut [u8], session: &Session, e: &Elimination, free: usize)
     requires length { length file.old ≡ session.now.file_length }
     ensures length { length file.new ≡ length file.old }
     ensures front { (s : ℕ) → s < symbols_of session.now → slice_index file.new (s * session.now.t)
-        ≡ gf_add (slice_index file.old (s * session.now.t)) (change_at e.now free (place_of e.now s)) }
+        ≡ gf_add (slice_index file.old (s * session.now.t)) (change_at e.now free (origin_of e.now s)) }
     ensures rest { (s c : ℕ) → 0 < c → c < session.now.t
         → slice_index file.new (s * session.now.t + c) ≡ slice_index file.old (s * session.now.t + c) }
 {
     let t = usize::from(session.t());
     'symbols: for s in 0..session.symbols() as usize {
-        add_at(file, s * t, change_of(e, free, e.places[s]));
+        add_at(file, s * t, change_of(e, free, e.origins[s]));
     }
 }
 
@@ -235,18 +267,18 @@ fn raised_file(
 
 /// The answer: that no file agrees, where a zero row or the bytes past the file's end aren't 0; the file whose free symbols
 /// are 0, where no symbol changes with a free one; else that file and another, which differ first in the first such symbol.
-pub(crate) fn answer(
+pub(crate) fn answer<R: Threads + Sync>(
+    rt: &R,
     alloc: Global,
     session: &Session,
     e: &Elimination,
-    payload: &PayloadRows,
+    payload: &Payload,
 ) -> Result<Answer, AllocError>
     requires shape { IsShaped session.now (length payload.now.rows) e.now }
-    requires payload { IsMatrix payload.now }
     requires columns { payload.now.cols ≡ session.now.t }
     ensures { IfOk result (IsAnswerOf session.now e.now payload.now) }
 {
-    if !rows_are_zero(payload, e.zero_rows.as_slice()) {
+    if !rows_are_zero(rt, alloc, payload, e.zero_rows.as_slice())? {
         return Ok(Answer::Inconsistent);
     }
     if !padding_is_zero(session, e, payload) {

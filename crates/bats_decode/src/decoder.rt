@@ -2,11 +2,12 @@
 ghost use Rattle.std.specs.Prelude.{ℕ, ◌≡◌, ◌<◌, ◌≤◌, ◌+◌, ◌*◌, ◌++◌, ◌∷◌, [], List, All, length, IfOk, IfErr, OnOk, OnErr};
 
 use crate::answering::answer;
-use crate::elimination::{Place, eliminate};
-use crate::payload_rows::PayloadRows;
+use crate::elimination::{Origin, eliminate};
+use crate::payload_rows::of_kept;
 use bats_batch::{Held, HeldEnd};
 use bats_model::{Answer, Nums, Packet, Session, Taken};
 use bats_peel::peel;
+use bats_stripes::{Gate, OpenGate};
 use gf_rows::{Plan, Steps};
 use std::alloc::{AllocError, Global};
 use std::marker::Model;
@@ -67,25 +68,25 @@ ghost use Rattle.bats_decode.specs.SolvingPlan.{PlanFollows};
 ghost use Rattle.bats_decode.specs.steps.SymbolRows.{symbol_rows, rows_with};
 
 // The rows of the symbols that have one.
-fn rows_of(alloc: Global, places: &[Place]) -> Result<Nums, AllocError>
-    ensures { IfOk result (λ rows. rows ≡ symbol_rows places.now) }
+fn rows_of(alloc: Global, origins: &[Origin]) -> Result<Nums, AllocError>
+    ensures { IfOk result (λ rows. rows ≡ symbol_rows origins.now) }
 {
     let mut rows = Nums::new(alloc);
-    'places: for place in places {
-        match place {
-            Place::Row(r) => rows.push(*r)?,
-            Place::Free(_) => {}
+    'origins: for origin in origins {
+        match origin {
+            Origin::Row(r) => rows.push(*r)?,
+            Origin::Free(_) => {}
         }
     }
     Ok(rows)
 }
 
 // The rows of the symbols, where the answer is a file.
-fn rows_for(alloc: Global, answer: &Answer, places: &[Place]) -> Result<Nums, AllocError>
-    ensures { IfOk result (λ rows. rows ≡ rows_with places.now answer.now) }
+fn rows_for(alloc: Global, answer: &Answer, origins: &[Origin]) -> Result<Nums, AllocError>
+    ensures { IfOk result (λ rows. rows ≡ rows_with origins.now answer.now) }
 {
     match answer {
-        Answer::File(_) => rows_of(alloc, places),
+        Answer::File(_) => rows_of(alloc, origins),
         _ => Ok(Nums::new(alloc)),
     }
 }
@@ -163,6 +164,38 @@ impl Decoder {
         ensures coef_steps_rise { coef_steps.old ≤ coef_steps.new }
         ensures steps_rise { steps.old ≤ steps.new }
     {
+        self.solve_with(rt, workers, &OpenGate, coef_steps, steps)
+    }
+
+    /// As `solve`, for every gate, which each worker passes before it begins its stripe of the payload rows.
+    pub fn solve_with<R: Threads + Sync, G: Gate, C: Ledger, L: Ledger>(
+        self,
+        rt: &R,
+        workers: u32,
+        gate: &G,
+        coef_steps: &mut Steps<C>,
+        steps: &mut Steps<L>,
+    ) -> Result<Solved, AllocError>
+        requires { (1 ≤ workers) × (workers ≤ 64) }
+        ensures right { IfOk result (λ solved. (packets : List Packet) → StandsFor packets self
+            → IsRightAnswer self.held.session packets solved.answer) }
+        ensures packets { IfOk result (λ solved. solved.packets ≡ self.packets) }
+        ensures kept { IfOk result (λ solved. (packets : List Packet) → StandsFor packets self
+            → solved.kept ≡ kept_count packets) }
+        ensures inactive { IfOk result (λ solved. (packets : List Packet) → StandsFor packets self
+            → (list : List ℕ) × (IsInactiveList self.held.session packets list × (solved.inactive ≡ length list))) }
+        ensures fits { IfOk result (λ solved. All (FitsRows (row_count self.held.batches)) solved.plan) }
+        ensures plan { IfOk result (λ solved. (packets : List Packet) → StandsFor packets self
+            → PlanFollows self.held.session (kept_packets self.held.batches) solved.plan solved.rows solved.answer) }
+        ensures bound { IfOk result (λ solved. (packets : List Packet) → StandsFor packets self → length solved.plan
+            ≤ row_count self.held.batches * (largest_degree self.held.session packets + solved.inactive)) }
+        ensures counted { IfOk result (λ solved. steps.new ≡ steps.old + length solved.plan) }
+        ensures steps { (packets : List Packet) (list : List ℕ) → StandsFor packets self
+            → IsInactiveList self.held.session packets list → steps.new
+            ≤ steps.old + row_count self.held.batches * (largest_degree self.held.session packets + length list) }
+        ensures coef_steps_rise { coef_steps.old ≤ coef_steps.new }
+        ensures steps_rise { steps.old ≤ steps.new }
+    {
         let session = self.session;
         let alloc = self.alloc;
         let packets = self.packets;
@@ -180,10 +213,10 @@ impl Decoder {
         }
         let _within = session.t();
         let e = eliminate(alloc, &session, &self.held, coef_steps)?;
-        let mut payload = PayloadRows::of_kept(alloc, &session, self.held)?;
-        payload.replay(&e.plan, steps);
-        let answer = answer(alloc, &session, &e, &payload)?;
-        let rows = rows_for(alloc, &answer, &e.places)?;
+        let mut payload = of_kept(alloc, &session, self.held, workers)?;
+        payload.replay(rt, &e.plan, gate, steps);
+        let answer = answer(rt, alloc, &session, &e, &payload)?;
+        let rows = rows_for(alloc, &answer, &e.origins)?;
         Ok(Solved {
             answer,
             packets,

@@ -7,23 +7,23 @@ ghost use Rattle.bats_model.specs.Peeling.{IsInactiveList, largest_degree};
 ghost use Rattle.bats_model.specs.declared.packet.Packet.{Packet};
 ghost use Rattle.bats_batch.specs.Held.{StandsFor, row_count, kept_packets};
 ghost use Rattle.bats_dense.specs.Reduced.{AreSplit};
-ghost use Rattle.bats_peel.specs.Peeled.{place_of as place_left};
+ghost use Rattle.bats_peel.specs.Peeled.{place_of};
 ghost use Rattle.bats_peel.specs.declared.peeled.Place.TheVariants.{Row as OwnRow, Column};
 ghost use Rattle.bats_decode.specs.steps.Received.{HasReceived};
-ghost use Rattle.bats_decode.specs.steps.Left.{HaveOwnRows, AreOwnRows, HaveColumns, place_after};
-ghost use Rattle.bats_decode.specs.steps.Eliminated.{ArePlaces, IsEliminated};
+ghost use Rattle.bats_decode.specs.steps.Left.{HaveOwnRows, AreOwnRows, HaveColumns, origin_after};
+ghost use Rattle.bats_decode.specs.steps.Eliminated.{AreOrigins, IsEliminated};
 
 use bats_batch::Held;
 use bats_dense::reduce;
 use bats_model::{Nums, Session};
-use bats_peel::{Place as Left, Places, peel};
+use bats_peel::{Place, Places, peel};
 use gf_rows::{Matrix, Plan, Steps};
 use std::alloc::{AllocError, Global};
 use std::sync::ledger::Ledger;
 
 /// Where the value of a symbol comes from once the plan was run.
 #[derive(Clone, Copy, Debug, PartialEq, Eq)]
-pub(crate) enum Place {
+pub(crate) enum Origin {
     /// From this row, and the free symbols that it takes from.
     Row(u32),
     /// From nowhere: it is the free symbol of this number.
@@ -38,8 +38,8 @@ pub(crate) struct Elimination {
     pub(crate) matrix: Matrix,
     /// The operations on the payload rows.
     pub(crate) plan: Plan,
-    /// The place of each symbol.
-    pub(crate) places: Vec<Place>,
+    /// The origin of each symbol.
+    pub(crate) origins: Vec<Origin>,
     /// The matrix column of each free symbol.
     pub(crate) free: Nums,
     /// The rows that no symbol is left in, which have to be 0 once the plan was run.
@@ -55,63 +55,63 @@ fn own_rows(alloc: Global, symbols: u32, left: &Places) -> Result<Nums, AllocErr
     let mut rows = Nums::new(alloc);
     'symbols: for s in 0..symbols {
         match left.get(s) {
-            Left::Row(r) => rows.push(r)?,
-            Left::Column(_) => {}
+            Place::Row(r) => rows.push(r)?,
+            Place::Column(_) => {}
         }
     }
     Ok(rows)
 }
 
-// The places of the columns' symbols: at each pivot column its row, and at each free column its number among these.
-fn column_places(
+// The origins of the columns' symbols: at each pivot column its row, and at each free column its number among these.
+fn column_origins(
     alloc: Global,
     columns: u32,
     pivot_rows: &[u32],
     pivot_columns: &[u32],
     free: &[u32],
-) -> Result<Vec<Place>, AllocError>
+) -> Result<Vec<Origin>, AllocError>
     requires sizes { length pivot_rows.now ≡ length pivot_columns.now }
     requires split { AreSplit columns pivot_columns.now free.now }
-    ensures { IfOk result (λ places. ArePlaces columns pivot_rows.now pivot_columns.now free.now places.items) }
+    ensures { IfOk result (λ origins. AreOrigins columns pivot_rows.now pivot_columns.now free.now origins.items) }
 {
-    let mut places = vec![in alloc; Place::Row(0); columns as usize]?;
+    let mut origins = vec![in alloc; Origin::Row(0); columns as usize]?;
     'pivots: for (i, column) in pivot_columns.iter().enumerate() {
-        places[*column as usize] = Place::Row(pivot_rows[i]);
+        origins[*column as usize] = Origin::Row(pivot_rows[i]);
     }
     'columns: for (i, column) in free.iter().enumerate() {
-        places[*column as usize] = Place::Free(i as u32);
+        origins[*column as usize] = Origin::Free(i as u32);
     }
-    Ok(places)
+    Ok(origins)
 }
 
-// The place of a symbol that peeling left here, by the places of the columns' symbols.
-fn place_of(columns: &[Place], left: Left) -> Place
+// The origin of a symbol that peeling left here, by the origins of the columns' symbols.
+fn origin_of(columns: &[Origin], left: Place) -> Origin
     requires { (j : ℕ) → left ≡ Column j → j < length columns.now }
-    ensures { result ≡ place_after columns.now left }
+    ensures { result ≡ origin_after columns.now left }
 {
     match left {
-        Left::Row(r) => Place::Row(r),
-        Left::Column(j) => columns[j as usize],
+        Place::Row(r) => Origin::Row(r),
+        Place::Column(j) => columns[j as usize],
     }
 }
 
-// The places of the symbols.
-fn places_of(
+// The origins of the symbols.
+fn origins_of(
     alloc: Global,
     symbols: u32,
     left: &Places,
-    columns: &[Place],
-) -> Result<Vec<Place>, AllocError>
+    columns: &[Origin],
+) -> Result<Vec<Origin>, AllocError>
     requires count { length left.now ≡ symbols }
     requires columns { HaveColumns symbols (length columns.now) left.now }
-    ensures { IfOk result (λ places. places.items
-        ≡ map (λ s. place_after columns.now (place_left left.now s)) (range_with_len 0 symbols)) }
+    ensures { IfOk result (λ origins. origins.items
+        ≡ map (λ s. origin_after columns.now (place_of left.now s)) (range_with_len 0 symbols)) }
 {
-    let mut places = Vec::new(alloc);
+    let mut origins = Vec::new(alloc);
     'symbols: for s in 0..symbols {
-        places.push(place_of(columns, left.get(s)))?;
+        origins.push(origin_of(columns, left.get(s)))?;
     }
-    Ok(places)
+    Ok(origins)
 }
 
 /// Eliminates the kept packets: peels them, and reduces the rows that are left over. The rows of the other symbols are
@@ -143,18 +143,18 @@ pub(crate) fn eliminate<C: Ledger>(
         peeled.plan,
         coef_steps,
     )?;
-    let columns = column_places(
+    let columns = column_origins(
         alloc,
         count,
         dense.pivot_rows.as_slice(),
         dense.pivot_columns.as_slice(),
         dense.free.as_slice(),
     )?;
-    let places = places_of(alloc, symbols, &peeled.places, &columns)?;
+    let origins = origins_of(alloc, symbols, &peeled.places, &columns)?;
     Ok(Elimination {
         matrix: dense.matrix,
         plan: dense.plan,
-        places,
+        origins,
         free: dense.free,
         zero_rows: dense.zero_rows,
     })

@@ -1,6 +1,6 @@
 -- A row that is written or copied piece by piece, a piece a stripe.
 use Rattle.std.proofs.Common.{ℕ, ◌≡◌, ◌≢◌, ◌<◌, ◌≤◌, ◌+◌, ◌-◌, ◌*◌, ◌/◌, ◌%◌, ◌⊎◌, inl, inr, ◌∙◌, List, length, get_or, take, drop, sym, ap, refl, subst, arith}
-use Rattle.std.proofs.Math.Nat.{mod-lt, mod-eq_of_lt, mul-add-mod_self_right, div-add-mod}
+use Rattle.std.proofs.Math.Nat.{div-lt_iff_lt-mul, mod-lt, mod-eq_of_lt, mul-add-mod_self_right, div-add-mod}
 use Rattle.std.proofs.lemmas.Bool.{cases_eq, cases_lt}
 use Rattle.std.proofs.lemmas.List.{get_or-take, get_or-drop}
 use Rattle.gf_rows.proofs.BufferLemmas.{length-part, row_within}
@@ -110,3 +110,47 @@ entry_of_piece xs at size j h = ap (λ n. get_or (take n (drop at xs)) j 0) (les
 pub piece_within : (rows stride stripes k r size n : ℕ) → n ≡ stripes * (rows * stride) → k < stripes → r < rows → size ≤ stride → (k * rows + r) * stride + size ≤ n
 piece_within rows stride stripes k r size n is h p fits =
     omega (arith, is, fits, row_within stripes (rows * stride) k n is h, row_within rows stride r (rows * stride) refl p, place_in_stripe k rows stride r 0)
+
+-- ---- a row of zeros
+
+-- the bytes of a row in the stripes before k are 0
+abbrev pub IsZeroBefore : ℕ → ℕ → ℕ → ℕ → ℕ → List ℕ → ℕ → Type 0
+IsZeroBefore rows cols width stride r buffer k =
+    (c : ℕ) → c < cols → c / width < k → get_or buffer (byte_place rows width stride r c) 0 ≡ 0
+
+module _ (rows cols width stride r k size start : ℕ) (buffer : List ℕ) (some : 0 < width) (narrow : size ≤ width) (inside : k * width + size ≤ cols) (all : (c : ℕ) → c < cols → c / width ≡ k → c % width < size)
+    (place : start ≡ (k * rows + r) * stride) (ends : start + size ≤ length buffer) where
+  -- and those of one piece more
+  pub zero_more : IsZeroBefore rows cols width stride r buffer k
+      → ((i : ℕ) → i < length (take (start + size - start) (drop start buffer)) → get_or (take (start + size - start) (drop start buffer)) i 0 ≡ 0)
+      → IsZeroBefore rows cols width stride r buffer (k + 1)
+  zero_more so_far zeros c p below = by_stripe (cases_eq (c / width) k)
+    where
+      by_stripe : ((c / width ≡ k) ⊎ (c / width ≡ k → ⊥)) → get_or buffer (byte_place rows width stride r c) 0 ≡ 0
+      by_stripe (inl own) =
+          let j : c % width < size = all c p own in
+          ap (λ n. get_or buffer ((n * rows + r) * stride + c % width) 0) own ∙
+          (ap (λ n. get_or buffer (n + c % width) 0) (sym place) ∙
+          (sym (entry_of_piece buffer start size (c % width) j) ∙
+          zeros (c % width) (subst (λ n. c % width < n) (sym (length_of_part buffer start size ends)) j)))
+      by_stripe (inr other) = so_far c p (omega (arith, below, other))
+
+  -- the stripe and the place in it of a byte of the piece
+  stripe_of : (i : ℕ) → i < size → (k * width + i) / width ≡ k
+  stripe_of i h =
+      let above : (k * width + i) / width < k + 1 = (div-lt_iff_lt-mul some).1 (omega (arith, h, narrow)) in
+      omega (arith, above, not_below (cases_lt ((k * width + i) / width) k))
+    where
+      not_below : (((k * width + i) / width < k) ⊎ (k ≤ (k * width + i) / width)) → k ≤ (k * width + i) / width
+      not_below (inl below) = omega (arith, (div-lt_iff_lt-mul some).0 below)
+      not_below (inr is) = is
+
+  -- where the row is 0, so is its piece
+  pub zeros_in : ((c : ℕ) → c < cols → get_or buffer (byte_place rows width stride r c) 0 ≡ 0)
+      → (i : ℕ) → i < length (take (start + size - start) (drop start buffer)) → get_or (take (start + size - start) (drop start buffer)) i 0 ≡ 0
+  zeros_in zeros i below =
+      let h : i < size = subst (λ n. i < n) (length_of_part buffer start size ends) below in
+      let column : (k * width + i) % width ≡ i = mul-add-mod_self_right k width i ∙ mod-eq_of_lt (omega (arith, h, narrow)) in
+      let same : byte_place rows width stride r (k * width + i) ≡ start + i =
+      ap (λ n. (n * rows + r) * stride + (k * width + i) % width) (stripe_of i h) ∙ (ap (λ n. (k * rows + r) * stride + n) column ∙ ap (λ n. n + i) (sym place)) in
+      entry_of_piece buffer start size i h ∙ (sym (ap (λ n. get_or buffer n 0) same) ∙ zeros (k * width + i) (omega (arith, h, inside)))

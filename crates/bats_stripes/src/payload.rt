@@ -97,12 +97,7 @@ impl Payload {
         requires { r < length self.now.rows }
         ensures { IsTrue result ↔ IsZeroRow self.now r }
     {
-        'columns: for c in 0..self.layout.cols {
-            if self.byte(r, c) != 0 {
-                return false;
-            }
-        }
-        true
+        pieces::row_is_zero(self.bytes.as_slice(), self.layout, r)
     }
 
     /// Runs the plan on every row, and counts a step for each operation. Each stripe has a worker, which passes the gate and

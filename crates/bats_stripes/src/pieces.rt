@@ -1,5 +1,5 @@
 //! A row of the payload, piece by piece: the bytes that it has in one stripe lie together.
-ghost use Rattle.std.specs.Prelude.{◌≡◌, ◌≢◌, ◌+◌, ◌<◌, ◌≤◌, ◌⊎◌, ℕ, length, slice_index};
+ghost use Rattle.std.specs.Prelude.{◌≡◌, ◌≢◌, ◌+◌, ◌<◌, ◌≤◌, ◌⊎◌, ◌↔◌, ℕ, IsTrue, length, slice_index};
 ghost use Rattle.bats_stripes.specs.Layout.{byte_place};
 ghost use Rattle.bats_stripes.specs.steps.Stripes.{IsStriped};
 
@@ -49,4 +49,35 @@ pub(crate) fn copy_row(buffer: &[u8], layout: Layout, r: u32, dst: &mut [u8])
         let end = start + layout.piece(k);
         put_piece(dst, layout.first(k), &buffer[start..end]);
     }
+}
+
+// Whether every byte of a piece is 0.
+fn is_zero(piece: &[u8]) -> bool
+    ensures { IsTrue result ↔ ((i : ℕ) → i < length piece.now → slice_index piece.now i ≡ 0) }
+{
+    'bytes: for i in 0..piece.len() {
+        if piece[i] != 0 {
+            return false;
+        }
+    }
+    true
+}
+
+/// Whether every byte of row `r` is 0.
+pub(crate) fn row_is_zero(buffer: &[u8], layout: Layout, r: u32) -> bool
+    requires striped { IsStriped layout.rows layout.cols layout.width layout.stride layout.stripes (length buffer.now) }
+    requires stripes { layout.stripes ≤ 64 }
+    requires stride { layout.stride ≤ 2080 }
+    requires row { r < layout.rows }
+    ensures { IsTrue result
+        ↔ ((c : ℕ) → c < layout.cols → slice_index buffer.now (byte_place layout.rows layout.width layout.stride r c) ≡ 0) }
+{
+    'pieces: for k in 0..layout.stripes {
+        let start = layout.place(k, r);
+        let end = start + layout.piece(k);
+        if !is_zero(&buffer[start..end]) {
+            return false;
+        }
+    }
+    true
 }

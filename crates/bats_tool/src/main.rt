@@ -3,11 +3,13 @@
 
 ghost use Rattle.std.specs.Prelude.{◌≡◌, ◌<◌};
 
+mod laws;
 mod run;
 #[cfg(test)]
 mod tests;
 
 use bats_io::{Sink, Source, StdSink, StdSource};
+use bats_stripes::{Gate, OpenGate};
 use gf_rows::Steps;
 use run::run;
 use std::alloc::Global;
@@ -25,10 +27,11 @@ use tool_run::Status;
 const INPUT_BUFFER: usize = 65536;
 
 // Runs the program with counters that begin at 0. What it promises is the contract of `run`.
-fn run_counted<R: Threads + Sync, S: Source, O: Sink, N: Sink, C: Ledger, L: Ledger>(
+fn run_counted<R: Threads + Sync, G: Gate, S: Source, O: Sink, N: Sink, C: Ledger, L: Ledger>(
     rt: &R,
     alloc: Global,
     words: &Vec<String>,
+    gate: &G,
     input: &mut S,
     output: &mut O,
     notes: &mut N,
@@ -46,7 +49,7 @@ fn run_counted<R: Threads + Sync, S: Source, O: Sink, N: Sink, C: Ledger, L: Led
         coef_steps: Steps::<C>::new(coef_blank),
         steps: Steps::<L>::new(blank),
     };
-    run(rt, alloc, words, input, output, notes, &mut counters)
+    run(rt, alloc, words, gate, input, output, notes, &mut counters)
 }
 
 // The words after the program's name. Words that are no text are no command, as are no words.
@@ -79,10 +82,11 @@ where
     let mut output = StdSink::new(output);
     let mut notes = StdSink::new(notes);
     let blanks = (Blank::new(1), Blank::new(1));
-    Ok(run_counted::<_, _, _, _, Brand, Brand>(
+    Ok(run_counted::<_, _, _, _, _, Brand, Brand>(
         rt,
         alloc,
         &words,
+        &OpenGate,
         &mut input,
         &mut output,
         &mut notes,

@@ -8,6 +8,7 @@ ghost use Rattle.bats_io.specs.Streams.{InputState};
 ghost use Rattle.bats_tool.specs.Promises.{help_ending, promise_of, usage_ending};
 
 use bats_io::{Sink, Source};
+use bats_stripes::Gate;
 use bats_words::{Command, SourceOptions, TrialOptions, WordsEnd, help_text, parse};
 use std::alloc::Global;
 use std::sync::ledger::Ledger;
@@ -41,10 +42,11 @@ fn help<O: Sink>(alloc: Global, output: &mut O) -> Result<Finish, Stop>
 }
 
 // Does what the words ask for, up to the notes line.
-fn attempt<R: Threads + Sync, S: Source, O: Sink, C: Ledger, L: Ledger>(
+fn attempt<R: Threads + Sync, G: Gate, S: Source, O: Sink, C: Ledger, L: Ledger>(
     rt: &R,
     alloc: Global,
     words: &Vec<String>,
+    gate: &G,
     input: &mut S,
     output: &mut O,
     counters: &mut Counters<C, L>,
@@ -83,7 +85,7 @@ fn attempt<R: Threads + Sync, S: Source, O: Sink, C: Ledger, L: Ledger>(
             relay(alloc, seed, extra, count, input, output, counters)
         }
         Ok(Command::Sink { workers, both }) => {
-            sink(rt, alloc, workers, both, input, output, counters)
+            sink(rt, alloc, workers, gate, both, input, output, counters)
         }
         Ok(
             Command::Replay {
@@ -92,7 +94,7 @@ fn attempt<R: Threads + Sync, S: Source, O: Sink, C: Ledger, L: Ledger>(
                 pool,
             },
         ) => replay(rt, alloc, workers, both, pool, input, output, counters),
-        Ok(Command::Check { workers }) => check(rt, alloc, workers, input, output, counters),
+        Ok(Command::Check { workers }) => check(rt, alloc, workers, gate, input, output, counters),
         Ok(Command::Show) => show(alloc, input, output),
         Ok(
             Command::Trial {
@@ -125,11 +127,13 @@ fn attempt<R: Threads + Sync, S: Source, O: Sink, C: Ledger, L: Ledger>(
     }
 }
 
-/// Runs the program on the words after its name: reads the input, writes and flushes the output, then the notes.
-pub fn run<R: Threads + Sync, S: Source, O: Sink, N: Sink, C: Ledger, L: Ledger>(
+/// Runs the program on the words after its name: reads the input, writes and flushes the output, then the notes. Where `sink`
+/// or `check` solves, each worker passes the gate.
+pub fn run<R: Threads + Sync, G: Gate, S: Source, O: Sink, N: Sink, C: Ledger, L: Ledger>(
     rt: &R,
     alloc: Global,
     words: &Vec<String>,
+    gate: &G,
     input: &mut S,
     output: &mut O,
     notes: &mut N,
@@ -150,6 +154,6 @@ pub fn run<R: Threads + Sync, S: Source, O: Sink, N: Sink, C: Ledger, L: Ledger>
         })
         result }
 {
-    let ending = attempt(rt, alloc, words, input, output, counters);
+    let ending = attempt(rt, alloc, words, gate, input, output, counters);
     conclude(output, notes, ending)
 }

@@ -12,6 +12,7 @@ mod scripts;
 
 use crate::run_counted;
 use bats_io::{MemSink, MemSource};
+use bats_stripes::OpenGate;
 use std::alloc::{AllocError, AllocGlobal, Global};
 use std::marker::Brand;
 use std::process::Abort;
@@ -83,10 +84,11 @@ fn make_run<R: AllocGlobal + Threads + Sync>(
     let mut output = MemSink::with_room(alloc, 1_100_000, most, vec![in alloc; fails[1]]?)?;
     let mut notes = MemSink::with_room(alloc, 1_000, most, vec![in alloc; fails[2]]?)?;
     let blanks = (Blank::new(1), Blank::new(1));
-    let status = run_counted::<_, _, _, _, Brand, Brand>(
+    let status = run_counted::<_, _, _, _, _, Brand, Brand>(
         rt,
         alloc,
         &words,
+        &OpenGate,
         &mut input,
         &mut output,
         &mut notes,

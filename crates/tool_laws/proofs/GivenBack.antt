@@ -24,7 +24,7 @@ use Rattle.tool_source.specs.Source.{source_ending, source_promise}
 use Rattle.bats_batch.specs.Held.{max_kept}
 use Rattle.tool_sink.specs.Sink.{IsSinkEnding, answer_ending}
 use Rattle.tool_laws.specs.GivesBack.{GivesBack}
-use Rattle.tool_records.proofs.RefusedReadings.{IsRefused-reading}
+use Rattle.tool_records.proofs.RefusedReadings.{IsRefused-few}
 use Rattle.tool_records.proofs.KeptEndings.{no_stop}
 use Rattle.tool_laws.proofs.SentPackets.{Sends, packets_for, AgreesWithAll-sent, IsFile-for, file_for}
 
@@ -61,7 +61,7 @@ gives_back session list input file both ending h a (inl k) =
     subst (GivesBack session (packets_of list) file) (sym k.ending_is)
     (GivesBack-answer both session k.session (packets_of list) (packets_of k.list) (length k.inactive) file k.answer few right a)
 gives_back session list input file both ending h a (inr (inl k)) =
-    absurd (no_file_refused session list input k.end h (IsRefused-reading input k.session k.list k.end k.reading))
+    absurd (no_file_refused session list input k.end h (IsRefused-few input ending k))
 gives_back session list input file both ending h a (inr (inr k)) =
     inr (ap (λ (x : Ending). x.status) k.ending_is, λ few. no_stop input session list ending h few (inr k))
 

@@ -24,7 +24,7 @@ use Rattle.tool_run.specs.Ending.{Ending}
 use Rattle.tool_run.specs.declared.status.Status.TheVariants as statuses
 use Rattle.tool_records.specs.Keeping.{AreFew}
 use Rattle.tool_stream.specs.Relay.{RelaySends, IsRelayEnding, most_outputs, output_count, batch_outputs, sent_packets, relayed_ending}
-use Rattle.tool_records.proofs.RefusedReadings.{IsRefused-reading}
+use Rattle.tool_records.proofs.RefusedReadings.{IsRefused-few}
 use Rattle.tool_laws.proofs.SentPackets.{IsFileOf, file_of}
 
 -- ---- the packets that were taken
@@ -179,7 +179,7 @@ sends_outputs session packets sent output shapes are file =
     )
 
 relayed_file : (seed : List ℕ) (extra : Bool) (count : ℕ) (session : SessionData) (list : List Item) (input : List ℕ)
-    (numbers : List ℕ) → count ≤ 64 → IsPacketFile session list input → AreFew (Some session) list
+    (numbers : List ℕ) → count ≤ 64 → IsPacketFile session list input → AreFew list
     → AreHeld (packets_of list) numbers
     → SendsOutputs session (packets_of list)
     (relayed_ending session seed (output_count session extra count) (packets_of list) numbers).output
@@ -216,6 +216,6 @@ pub sends_what_agrees : (seed : List ℕ) (extra : Bool) (count : ℕ) (session 
 sends_what_agrees seed extra count session list input ending small file (inl h) done =
     sends_as_read seed extra count session list input ending small file h
 sends_what_agrees seed extra count session list input ending small file (inr (inl h)) done =
-    absurd (no_file_refused session list input h.end file (IsRefused-reading input h.session h.list h.end h.reading))
+    absurd (no_file_refused session list input h.end file (IsRefused-few input ending h))
 sends_what_agrees seed extra count session list input ending small file (inr (inr h)) done =
     absurd (limit_not_done (sym (ap (λ (x : Ending). x.status) h.ending_is) ∙ done))

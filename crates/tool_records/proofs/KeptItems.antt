@@ -1,10 +1,10 @@
 -- The packets of items, and how many of them are kept.
-use Rattle.std.proofs.Common.{ℕ, ◌≡◌, ◌≤◌, ◌+◌, true, cond, List, [], ◌∷◌, ◌++◌, length, Option, None, Some, sym, ap, ◌∙◌, subst, arith}
+use Rattle.std.proofs.Common.{ℕ, ◌≡◌, ◌≤◌, ◌<◌, ◌+◌, Bool, true, false, cond, refl, List, [], ◌∷◌, ◌++◌, length, sym, ap, ◌∙◌, subst, arith}
 use Rattle.std.proofs.lemmas.List.{length-append}
 use Rattle.std.proofs.lemmas.List.Elements.{All-weaker}
 use Rattle.bats_model.specs.Session.{SessionData}
 use Rattle.bats_model.specs.PacketFile.{HasShape, IsItemAt, IsPacketFile, most_records, packets_of}
-use Rattle.bats_model.specs.Kept.{IsCombination, coefs_of, is_new, new_after, kept_count}
+use Rattle.bats_model.specs.Kept.{IsCombination, coefs_of, kept_of, is_new, new_after, kept_count}
 use Rattle.bats_model.specs.declared.packet.Packet.{Packet}
 use Rattle.bats_model.specs.declared.item.Item.{Item}
 use Rattle.bats_model.specs.declared.item.Item.TheVariants as items
@@ -15,8 +15,7 @@ use Rattle.bats_format.proofs.JoinedFiles.{packets_of-append}
 use Rattle.bats_batch.specs.Basis.{IsTaken}
 use Rattle.bats_batch.specs.Held.{HeldData, StandsFor, kept_at, row_count, max_kept}
 use Rattle.bats_batch.proofs.Offers.{row_count-stands}
-use Rattle.tool_records.specs.Keeping.{AreFew, takes_few}
-use Rattle.tool_records.specs.ReadsRecords.{ReadsOn}
+use Rattle.tool_records.specs.Keeping.{AreFew}
 use Rattle.tool_records.specs.steps.Came.{HasShapeOf, CameAfterFew, EndsFull}
 use Rattle.tool_records.proofs.WalksRead.{same_last}
 
@@ -49,15 +48,10 @@ packets_of-room session list item bytes file =
 -- ---- few are kept
 
 -- of no items
-pub AreFew-nothing : (session : SessionData) (list : List Item) → list ≡ [] → AreFew (Some session) list
+pub AreFew-nothing : (list : List Item) → list ≡ [] → AreFew list
 unfolding packets_of new_after
-AreFew-nothing session [] e = omega arith
-AreFew-nothing session (item ∷ list) e = cc
-
--- a command that keeps packets reads on while few are kept
-pub ReadsOn-few : (session : Option SessionData) (list : List Item) → AreFew session list → ReadsOn takes_few session list
-ReadsOn-few None list h = tt
-ReadsOn-few (Some session) list h = h
+AreFew-nothing [] e = omega arith
+AreFew-nothing (item ∷ list) e = cc
 
 kept_more : (earlier packets more : List Packet) → length (new_after earlier packets) ≤ length (new_after earlier (packets ++ more))
 unfolding new_after
@@ -72,8 +66,8 @@ kept_more earlier (packet ∷ packets) more =
     )
 
 -- where few of some items' packets are kept, few of the first items' are
-pub AreFew-before : (session : SessionData) (list more : List Item) → AreFew (Some session) (list ++ more) → AreFew (Some session) list
-AreFew-before session list more few =
+pub AreFew-before : (list more : List Item) → AreFew (list ++ more) → AreFew list
+AreFew-before list more few =
     let both = ap kept_count (packets_of-append list more) in
     omega (arith, few, both, kept_more [] (packets_of list) (packets_of more))
 
@@ -95,22 +89,46 @@ is_too_many packet held list shape full is stands few =
     kept_count-push list packet ∙ ap (λ b. kept_count list + cond b 1 0) new in
     omega (arith, few, more, counted)
 
+few_by : (packet : Packet) (held : HeldData) (list : List Packet) → HasShape held.session packet → StandsFor list held
+    → (IsTaken (kept_at held.batches packet.batch) packet Kept → row_count held.batches < max_kept) → kept_count list ≤ max_kept
+    → (b : Bool) → is_new list packet ≡ b → kept_count (list ++ packet ∷ []) ≤ max_kept
+few_by packet held list shape stands room few true new =
+    let apart : ¬ IsCombination (coefs_of (kept_of packet.batch list)) packet.coefs =
+    (is_new-kept held.session.m list packet
+    (All-weaker (HasShape held.session) (HasVector held.session.m) (HasVector-shape held.session) list stands.shapes)
+    (HasVector-shape held.session packet shape)).0 new in
+    let is : IsTaken (kept_at held.batches packet.batch) packet Kept =
+    subst (λ (ps : List Packet). ¬ IsCombination (coefs_of ps) packet.coefs) (sym (stands.kept packet.batch)) apart in
+    let more : kept_count (list ++ packet ∷ []) ≡ kept_count list + 1 =
+    kept_count-push list packet ∙ ap (λ b. kept_count list + cond b 1 0) new in
+    omega (arith, more, row_count-stands list held stands, room is)
+few_by packet held list shape stands room few false old =
+    let same : kept_count (list ++ packet ∷ []) ≡ kept_count list + 0 =
+    kept_count-push list packet ∙ ap (λ b. kept_count list + cond b 1 0) old in
+    omega (arith, same, few)
+
+-- few are kept with one packet more, where a new one is taken only as long as there is room
+pub few_with : (packet : Packet) (held : HeldData) (list : List Packet) → HasShape held.session packet → StandsFor list held
+    → (IsTaken (kept_at held.batches packet.batch) packet Kept → row_count held.batches < max_kept) → kept_count list ≤ max_kept
+    → kept_count (list ++ packet ∷ []) ≤ max_kept
+few_with packet held list shape stands room few = few_by packet held list shape stands room few (is_new list packet) refl
+
 -- ---- the last of the items
 
 -- few were kept before the last item
 pub few_before_last : (session : SessionData) (list : List Item) (item : Item) → CameAfterFew session (list ++ item ∷ [])
-    → AreFew (Some session) list
+    → AreFew list
 few_before_last session list item came =
     let same = same_last list came.before item came.item came.list_is in
-    subst (λ (xs : List Item). AreFew (Some session) xs) (sym same.0) came.few
+    subst (λ (xs : List Item). AreFew xs) (sym same.0) came.few
 
 -- the item after these is a packet that would be kept when no more may be
 pub record MeetsFull (session : SessionData) (list : List Item) (item : Item) : Type 0 where
   pub at : ℕ
   pub packet : Packet
   pub item_is : item ≡ items.Packet at packet
-  pub few : AreFew (Some session) list
-  pub full : ¬ AreFew (Some session) (list ++ item ∷ [])
+  pub few : AreFew list
+  pub full : ¬ AreFew (list ++ item ∷ [])
 
 pub MeetsFull-ends : (session : SessionData) (list : List Item) (item : Item) → EndsFull session (list ++ item ∷ []) → MeetsFull session list item
 MeetsFull-ends session list item ends =
@@ -119,6 +137,6 @@ MeetsFull-ends session list item ends =
       at = ends.at;
       packet = ends.packet;
       item_is = same.1;
-      few = subst (λ (xs : List Item). AreFew (Some session) xs) (sym same.0) ends.few;
+      few = subst (λ (xs : List Item). AreFew xs) (sym same.0) ends.few;
       full = ends.full;
     }

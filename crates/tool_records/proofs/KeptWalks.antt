@@ -22,28 +22,29 @@ use Rattle.tool_run.specs.Promise.{Keeps}
 use Rattle.tool_run.specs.Streams.{Counters, Ends}
 use Rattle.tool_run.specs.Writes.{Writes, AppendsAsFar}
 use Rattle.tool_run.proofs.Begun.{IsBegun-whole, IsBegun-front}
-use Rattle.tool_records.specs.declared.walking.Taken.{Taken}
-use Rattle.tool_records.specs.declared.walking.Taken.TheVariants as takes
+use Rattle.tool_records.specs.declared.walking.Next.{Next}
+use Rattle.tool_records.specs.declared.walking.Next.TheVariants as takes
 use Rattle.tool_records.specs.declared.walking.WalkEnd.TheVariants as walks
-use Rattle.tool_records.specs.Keeping.{AreFew, RefusesAfterFew, PassesLimit, StopsKeeping, kept_limit_ending, takes_few, keeping_promise}
-use Rattle.tool_records.specs.Reading.{refusal_ending}
+use Rattle.tool_records.specs.Keeping.{AreFew, RefusesAfterFew, PassesLimit, StopsKeeping, kept_limit_ending, keeping_promise}
+use Rattle.tool_records.specs.Reading.{IsReading, refusal_ending}
 use Rattle.tool_records.specs.ReadsRecords.{ReadsRecords}
-use Rattle.tool_records.specs.Walk.{Gives, GivenSoFar, ReadsLast, Walks, WalksToEnd, WalksToRefusal, WalksToItem, WalksToStop}
+use Rattle.tool_records.specs.Walk.{AreRecords, Gives, GivenSoFar, ReadsLast, Walks, WalksToEnd, WalksToRefusal, WalksToItem, WalksToStop}
 use Rattle.tool_records.specs.steps.Came.{CameAfterFew, EndsFull}
-use Rattle.tool_records.proofs.KeptItems.{ReadsOn-few, MeetsFull-ends, few_before_last}
+use Rattle.tool_records.specs.steps.Kept.{FinishesBy}
+use Rattle.tool_records.proofs.KeptItems.{AreFew-nothing, MeetsFull-ends, few_before_last}
 use Rattle.tool_run.proofs.AtOnce.{MayStopAtOnce}
 use Rattle.tool_records.proofs.WalksRead.{ReadsRecords-nothing, told_items, told_last, any_session, ReadsRecords-items, ReadsRecords-item, ReadsRecords-last}
 
 -- ---- what any command has done that keeps packets
 
 -- no more of the items' packets are kept than may be, or the last is a packet too many, or memory ran out for it
-abbrev pub KeepsFewAs : SessionData → List Item → Result Taken Stop → Type 0
-KeepsFewAs session list (Ok takes.GoesOn) = AreFew (Some session) list
+abbrev pub KeepsFewAs : SessionData → List Item → Result Next Stop → Type 0
+KeepsFewAs session list (Ok takes.GoesOn) = AreFew list
 KeepsFewAs session list (Ok takes.Halts) = EndsFull session list
 KeepsFewAs session list (Err stop) = (stop ≡ stops.Memory) × CameAfterFew session list
 
 -- and nothing was written
-pub record KeepsFew (session : SessionData) (list : List Item) (start now : OutputState) (result : Result Taken Stop) : Type 0 where
+pub record KeepsFew (session : SessionData) (list : List Item) (start now : OutputState) (result : Result Next Stop) : Type 0 where
   pub as_far : KeepsFewAs session list result
   pub nothing_written : now ≡ start
 
@@ -52,35 +53,31 @@ keeping_promise-keeps ends = record { whole = λ input ending e. IsBegun-whole e
 
 -- it may stop before it has read anything
 pub keeping_promise-at_once : (ends : List ℕ → Ending → Type 0) → MayStopAtOnce (keeping_promise ends)
-keeping_promise-at_once ends = record { reads = λ left. ReadsRecords-nothing takes_few left; partly = λ input. inl refl }
+keeping_promise-at_once ends = record { reads = λ left. ReadsRecords-nothing AreFew left; partly = λ input. inl refl }
 
 -- few are kept of the items before the next
-few_so_far : (session : Option SessionData) (list : List Item) (o p : OutputState) → GivenSoFar KeepsFew session list o p → AreFew session list
-few_so_far None list o p h = tt
-few_so_far (Some session) list o p h = h.as_far
+few_so_far : (session : Option SessionData) (list : List Item) (front : List ℕ) (o p : OutputState) → AreRecords session list front
+    → GivenSoFar KeepsFew session list o p → AreFew list
+few_so_far None list front o p records h = AreFew-nothing list records.1
+few_so_far (Some session) list front o p records h = h.as_far
 
 nothing_so_far : (session : Option SessionData) (list : List Item) (o p : OutputState) → GivenSoFar KeepsFew session list o p → p ≡ o
 nothing_so_far None list o p h = (h any_session).nothing_written
 nothing_so_far (Some session) list o p h = h.nothing_written
 
 -- one item more was read, after few
-reads_one_more : (session : SessionData) (list : List Item) (item : Item) (before after : Option (List ℕ)) → AreFew (Some session) list
-    → ReadsLast session list item before after → ReadsRecords takes_few before after
+reads_one_more : (session : SessionData) (list : List Item) (item : Item) (before after : Option (List ℕ)) → AreFew list
+    → ReadsLast session list item before after → ReadsRecords AreFew before after
 reads_one_more session list item before after few q =
     elim (cases_lt max_kept (kept_count (packets_of (list ++ item ∷ [])))) [
-      | inl many ↦ ReadsRecords-last takes_few session list item before after few (λ under. omega (arith, many, under)) q
-      | inr under ↦ ReadsRecords-item takes_few session list item before after under q
+      | inl many ↦ ReadsRecords-last AreFew session list item before after few (λ under. omega (arith, many, under)) q
+      | inr under ↦ ReadsRecords-item AreFew session list item before after under q
     ]
 
 unwritten : (o p : OutputState) → p ≡ o → Appends o.written p.written []
 unwritten o p e = ap (λ (x : OutputState). x.written) e ∙ sym (appended-nil o.written)
 
 -- ---- an ending that nothing is written for
-
--- a finish has this ending's status and line, or memory ran out for the line
-abbrev pub FinishesBy : Ending → Result Finish Stop → Type 0
-FinishesBy ending (Ok finish) = (finish.status ≡ ending.status) × (string_bytes finish.line ≡ ending.line)
-FinishesBy ending (Err stop) = stop ≡ stops.Memory
 
 -- a `?` passes on that memory ran out for it
 pub FinishesBy-exit : (ending : Ending) (result : Result Finish Stop) → IsErrAnd result (λ y. y ≡ stops.Memory) → FinishesBy ending result
@@ -96,22 +93,23 @@ record HasEnding (ends : List ℕ → Ending → Type 0) (start now : Ends) (end
   no_output : ending.output ≡ []
   no_work : ending.work ≡ None
   reach : HasRead ending.reach start.input.left now.input.left
-  reads : ReadsRecords takes_few start.input.left now.input.left
+  reads : ReadsRecords AreFew start.input.left now.input.left
   no_fault : now.input.faults ≡ start.input.faults
   nothing : now.output ≡ start.output
 
 -- ---- what the input is
 
 -- it is refused, after few packets were kept
+RefusesAfterFew-reading : (input : List ℕ) (session : Option SessionData) (list : List Item) (end : ReadEnd)
+    → IsReading input session list (Some end) → AreFew list → RefusesAfterFew input (refusal_ending [] end)
+RefusesAfterFew-reading input None list end reading few = record { end = end; refused = inl reading.1; ending_is = refl }
+RefusesAfterFew-reading input (Some session) list end reading few =
+    record { end = end; refused = inr (session, list, reading, few); ending_is = refl }
+
 pub RefusesAfterFew-walked : (start now : Ends) (end : ReadEnd) → (w : WalksToRefusal KeepsFew start now end) → RefusesAfterFew w.input (refusal_ending [] end)
-RefusesAfterFew-walked start now end w = record {
-  session = w.session;
-  list = w.list;
-  end = end;
-  reading = w.reading;
-  few = few_so_far w.session w.list start.output now.output w.given;
-  ending_is = refl;
-}
+RefusesAfterFew-walked start now end w =
+    RefusesAfterFew-reading w.input w.session w.list end w.reading
+    (few_so_far w.session w.list w.reads.front start.output now.output w.reads.records w.given)
 
 -- or a packet too many came
 pub PassesLimit-walked : (start now : Ends) (w : WalksToItem KeepsFew start now (Ok takes.Halts)) (rest : List ℕ)
@@ -131,13 +129,13 @@ PassesLimit-walked start now w rest =
         split = refl;
       };
       few = meets.few;
-      full = subst (λ (i : Item). ¬ AreFew (Some w.session) (w.list ++ i ∷ [])) meets.item_is meets.full;
+      full = subst (λ (i : Item). ¬ AreFew (w.list ++ i ∷ [])) meets.item_is meets.full;
       ending_is = refl;
     }
 
 module _ (ends : List ℕ → Ending → Type 0) (start now : Ends) where
   -- memory ran out before anything was written
-  lacks_memory : (input : List ℕ) → IsTold start.input.left input → ReadsRecords takes_few start.input.left now.input.left
+  lacks_memory : (input : List ℕ) → IsTold start.input.left input → ReadsRecords AreFew start.input.left now.input.left
       → now.input.faults ≡ start.input.faults → now.output ≡ start.output → AttemptsUncounted (keeping_promise ends) start now (Err stops.Memory)
   lacks_memory input told reads no_fault nothing = λ c d. record {
     input = input;
@@ -190,8 +188,8 @@ module _ (ends : List ℕ → Ending → Type 0) (start now : Ends) where
         no_output = refl;
         no_work = refl;
         reach = tt;
-        reads = ReadsRecords-items takes_few w.session w.list start.input.left now.input.left
-            (ReadsOn-few w.session w.list (few_so_far w.session w.list start.output now.output w.given)) w.reads;
+        reads = ReadsRecords-items AreFew w.session w.list start.input.left now.input.left
+            (few_so_far w.session w.list w.reads.front start.output now.output w.reads.records w.given) w.reads;
         no_fault = w.no_fault;
         nothing = nothing_so_far w.session w.list start.output now.output w.given;
       }) finishes
@@ -213,7 +211,7 @@ module _ (ends : List ℕ → Ending → Type 0) (start now : Ends) where
         no_output = refl;
         no_work = refl;
         reach = tt;
-        reads = ReadsRecords-last takes_few w.session w.list w.item start.input.left now.input.left meets.few meets.full w.reads;
+        reads = ReadsRecords-last AreFew w.session w.list w.item start.input.left now.input.left meets.few meets.full w.reads;
         no_fault = w.no_fault;
         nothing = w.given.nothing_written;
       }) finishes
@@ -237,8 +235,8 @@ module _ (ends : List ℕ → Ending → Type 0) (start now : Ends) where
       λ c d. record {
         input = w.reads.front ++ told.0;
         told = told.1;
-        read = ReadsRecords-items takes_few w.session w.list start.input.left now.input.left
-            (ReadsOn-few w.session w.list (few_so_far w.session w.list start.output now.output w.given)) w.reads;
+        read = ReadsRecords-items AreFew w.session w.list start.input.left now.input.left
+            (few_so_far w.session w.list w.reads.front start.output now.output w.reads.records w.given) w.reads;
         as_far = record {
           input_fault = w.faults;
           output = record { part = []; is_part = refl; written = unwritten start.output now.output nothing };
@@ -248,8 +246,8 @@ module _ (ends : List ℕ → Ending → Type 0) (start now : Ends) where
   stopped_reading stops.Memory w =
       let told = told_items w.reads in
       lacks_memory (w.reads.front ++ told.0) told.1
-      (ReadsRecords-items takes_few w.session w.list start.input.left now.input.left
-      (ReadsOn-few w.session w.list (few_so_far w.session w.list start.output now.output w.given)) w.reads)
+      (ReadsRecords-items AreFew w.session w.list start.input.left now.input.left
+      (few_so_far w.session w.list w.reads.front start.output now.output w.reads.records w.given) w.reads)
       w.faults (nothing_so_far w.session w.list start.output now.output w.given)
   stopped_reading stops.WriteFault w = absurd w.faults
 
@@ -268,7 +266,7 @@ pub Attempts-unwritten : (ends : List ℕ → Ending → Type 0) (start now : En
 Attempts-unwritten ends start now walked =
     let w : WalksToEnd KeepsFew start now = walked.as_far in
     lacks_memory ends start now w.input w.told
-    (ReadsRecords-items takes_few (Some w.session) w.list start.input.left now.input.left w.given.as_far w.reads)
+    (ReadsRecords-items AreFew (Some w.session) w.list start.input.left now.input.left w.given.as_far w.reads)
     w.no_fault w.given.nothing_written
 
 -- the output of a right ending was begun
@@ -325,7 +323,7 @@ ended_as ends input start now c d ending (Err stop) is of_ending reach worked no
 
 -- after the walk of any taker that has kept few of the items' packets and has written nothing
 pub Attempts-ended : (ends : List ℕ → Ending → Type 0) (gives : Gives) (start now : Ends) (c d : Counters) (after : OutputState) (ending : Ending)
-    (result : Result Finish Stop) → (w : WalksToEnd gives start now) → AreFew (Some w.session) w.list → now.output ≡ start.output
+    (result : Result Finish Stop) → (w : WalksToEnd gives start now) → AreFew w.list → now.output ≡ start.output
     → ends w.input ending → IsOfEnding ending.status → HasRead ending.reach start.input.left now.input.left → HasWorked ending.work c d
     → EndsAs ending now.output after result → Attempts (keeping_promise ends) start (record { input = now.input; output = after }) c d result
 Attempts-ended ends gives start now c d after ending result w few nothing is of_ending reach worked done =
@@ -333,6 +331,6 @@ Attempts-ended ends gives start now c d after ending result w few nothing is of_
     record {
       input = w.input;
       told = w.told;
-      read = ReadsRecords-items takes_few (Some w.session) w.list start.input.left now.input.left few w.reads;
+      read = ReadsRecords-items AreFew (Some w.session) w.list start.input.left now.input.left few w.reads;
       as_far = ended_as ends w.input start (record { input = now.input; output = after }) c d ending result is of_ending reach worked w.no_fault written;
     }

@@ -7,3 +7,4 @@ pub mod RefusedReadings
 pub mod KeptItems
 pub mod KeptWalks
 pub mod KeptEndings
+pub mod Keepers

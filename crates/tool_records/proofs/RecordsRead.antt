@@ -10,13 +10,16 @@ use Rattle.bats_model.specs.declared.item.Item.{Item}
 use Rattle.bats_model.specs.declared.item.Item.TheVariants as items
 use Rattle.bats_format.specs.Taking.{HasNoRecord, room_of, ReadsWithin}
 use Rattle.bats_format.proofs.RecordLemmas.{length-header_record, length-packet_record, record_of-some}
-use Rattle.tool_records.specs.ReadsRecords.{StopsWithin}
+use Rattle.tool_records.specs.ReadsRecords.{ReadsAsFar}
+use Rattle.tool_records.specs.Walk.{AreRecords}
 
--- bytes that are no whole record
-pub stops_within : (goes_on : SessionData → List Item → Type 0) (session : Option SessionData) (list : List Item) (front begun : List ℕ)
-    → HasNoRecord session (length front) begun → StopsWithin goes_on session list front begun
-stops_within goes_on None list front begun none = λ session more is same. absurd (none session more is same)
-stops_within goes_on (Some session) list front begun none = λ item more place same. absurd (none item more place same)
+-- these records were read, after which the command reads on, and then bytes that are no whole record
+pub reads_as_far : (goes_on : List Item → Type 0) (session : Option SessionData) (list : List Item) (front begun : List ℕ)
+    → goes_on list → AreRecords session list front → HasNoRecord session (length front) begun → ReadsAsFar goes_on session list front begun
+reads_as_far goes_on None list front begun on records none =
+    (records.1, records.0, λ session more is same. absurd (none session more is same))
+reads_as_far goes_on (Some session) list front begun on records none =
+    (records, on, λ item more place same. absurd (none item more place same))
 
 -- no record is empty
 pub none_empty : (session : Option SessionData) (offset : ℕ) → HasNoRecord session offset []

@@ -5,8 +5,8 @@ use Rattle.bats_model.specs.Session.{SessionData}
 use Rattle.bats_model.specs.declared.item.Item.{Item}
 use Rattle.tool_run.specs.declared.stop.Stop.{Stop}
 use Rattle.tool_run.specs.Streams.{Ends}
-use Rattle.tool_records.specs.declared.walking.Taken.{Taken}
-use Rattle.tool_records.specs.declared.walking.Taken.TheVariants as takes
+use Rattle.tool_records.specs.declared.walking.Next.{Next}
+use Rattle.tool_records.specs.declared.walking.Next.TheVariants as takes
 use Rattle.tool_records.specs.declared.walking.WalkEnd.{WalkEnd}
 use Rattle.tool_records.specs.declared.walking.WalkEnd.TheVariants as walks
 use Rattle.tool_records.specs.Walk.{Gives, GivenSoFar, Walks, WalksAs, WalksToItem}
@@ -14,7 +14,7 @@ use Rattle.tool_records.proofs.WalksRead.{any_session}
 
 -- one relation follows from another
 abbrev pub Weakens : Gives → Gives → Type 0
-Weakens gives gives' = (session : SessionData) (list : List Item) (start now : OutputState) (taken : Result Taken Stop)
+Weakens gives gives' = (session : SessionData) (list : List Item) (start now : OutputState) (taken : Result Next Stop)
     → gives session list start now taken → gives' session list start now taken
 
 given-map : (gives gives' : Gives) (known : Option SessionData) (list : List Item) (start now : OutputState) → Weakens gives gives'
@@ -22,7 +22,7 @@ given-map : (gives gives' : Gives) (known : Option SessionData) (list : List Ite
 given-map gives gives' None list start now weakens h = λ session. weakens session list start now (Ok takes.GoesOn) (h session)
 given-map gives gives' (Some session) list start now weakens h = weakens session list start now (Ok takes.GoesOn) h
 
-item-map : (gives gives' : Gives) (start now : Ends) (taken : Result Taken Stop) → Weakens gives gives'
+item-map : (gives gives' : Gives) (start now : Ends) (taken : Result Next Stop) → Weakens gives gives'
     → WalksToItem gives start now taken → WalksToItem gives' start now taken
 item-map gives gives' start now taken weakens w = record {
   session = w.session;
@@ -73,13 +73,13 @@ pub Walks-map : (gives gives' : Gives) (start now : Ends) (result : Result WalkE
 Walks-map gives gives' start now result weakens w = record { as_far = walks-map gives gives' start now result weakens w.as_far }
 
 given-holds : (gives : Gives) (P : Type 0) (known : Option SessionData) (list : List Item) (start now : OutputState)
-    → ((session : SessionData) (list : List Item) (start now : OutputState) (taken : Result Taken Stop) → gives session list start now taken → P)
+    → ((session : SessionData) (list : List Item) (start now : OutputState) (taken : Result Next Stop) → gives session list start now taken → P)
     → GivenSoFar gives known list start now → P
 given-holds gives P None list start now holds h = holds any_session list start now (Ok takes.GoesOn) (h any_session)
 given-holds gives P (Some session) list start now holds h = holds session list start now (Ok takes.GoesOn) h
 
 walks-hold : (gives : Gives) (P : Type 0) (start now : Ends) (result : Result WalkEnd Stop)
-    → ((session : SessionData) (list : List Item) (start now : OutputState) (taken : Result Taken Stop) → gives session list start now taken → P)
+    → ((session : SessionData) (list : List Item) (start now : OutputState) (taken : Result Next Stop) → gives session list start now taken → P)
     → WalksAs gives start now result → P
 walks-hold gives P start now (Ok walks.Whole) holds w = holds w.session w.list start.output now.output (Ok takes.GoesOn) w.given
 walks-hold gives P start now (Ok (walks.Refused end)) holds w = given-holds gives P w.session w.list start.output now.output holds w.given
@@ -91,6 +91,6 @@ walks-hold gives P start now (Err stop) holds (inr w) = given-holds gives P w.se
 
 -- what follows from the relation, whatever the items and the answer are, holds after the walk
 pub Walks-holds : (gives : Gives) (P : Type 0) (start now : Ends) (result : Result WalkEnd Stop)
-    → ((session : SessionData) (list : List Item) (start now : OutputState) (taken : Result Taken Stop) → gives session list start now taken → P)
+    → ((session : SessionData) (list : List Item) (start now : OutputState) (taken : Result Next Stop) → gives session list start now taken → P)
     → Walks gives start now result → P
 Walks-holds gives P start now result holds w = walks-hold gives P start now result holds w.as_far

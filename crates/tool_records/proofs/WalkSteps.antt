@@ -15,8 +15,8 @@ use Rattle.tool_run.specs.declared.stop.Stop.{Stop}
 use Rattle.tool_run.specs.declared.stop.Stop.TheVariants as stops
 use Rattle.tool_run.specs.Attempt.{IsOfEnding}
 use Rattle.tool_run.specs.Streams.{Ends}
-use Rattle.tool_records.specs.declared.walking.Taken.{Taken}
-use Rattle.tool_records.specs.declared.walking.Taken.TheVariants as takes
+use Rattle.tool_records.specs.declared.walking.Next.{Next}
+use Rattle.tool_records.specs.declared.walking.Next.TheVariants as takes
 use Rattle.tool_records.specs.declared.walking.WalkEnd.{WalkEnd}
 use Rattle.tool_records.specs.Reading.{refusal_status}
 use Rattle.tool_records.specs.Walk.{Gives, Begins, CanTake, ReadsItems, ReadingStops, WalksToEnd, WalksToRefusal, WalksToItem, WalksToStop, WalksAs, Walks}
@@ -62,7 +62,7 @@ CanTake-item gives start now reader item h = record {
 }
 
 -- the taker's answer to the item, for the session that the reader shows
-pub Gives-item : (gives gives' : Gives) (start y : Ends) (after : OutputState) (reader : ReaderData) (shown : SessionData) (item : Item) (taken answer : Result Taken Stop)
+pub Gives-item : (gives gives' : Gives) (start y : Ends) (after : OutputState) (reader : ReaderData) (shown : SessionData) (item : Item) (taken answer : Result Next Stop)
     → shown ≡ reader.session → taken ≡ answer
     → ((so_far : CanTake gives shown item y.output) → gives' shown (so_far.list ++ item ∷ []) so_far.start after taken)
     → (h : HoldsItem gives start y reader item) → gives' reader.session (h.list ++ item ∷ []) start.output after answer
@@ -70,11 +70,11 @@ unfolding CanTake-item
 Gives-item gives gives' start y after reader shown item taken answer same is f h =
     let for_reader : (so_far : CanTake gives reader.session item y.output) → gives' reader.session (so_far.list ++ item ∷ []) so_far.start after taken =
     subst (λ (s : SessionData). (so_far : CanTake gives s item y.output) → gives' s (so_far.list ++ item ∷ []) so_far.start after taken) same f in
-    subst (λ (t : Result Taken Stop). gives' reader.session (h.list ++ item ∷ []) start.output after t) is
+    subst (λ (t : Result Next Stop). gives' reader.session (h.list ++ item ∷ []) start.output after t) is
     (for_reader (CanTake-item gives start y reader item h))
 
 -- the item at which the walk ends
-pub WalksToItem-held : (gives gives' : Gives) (start y : Ends) (after : OutputState) (reader : ReaderData) (item : Item) (taken : Result Taken Stop)
+pub WalksToItem-held : (gives gives' : Gives) (start y : Ends) (after : OutputState) (reader : ReaderData) (item : Item) (taken : Result Next Stop)
     → (h : HoldsItem gives start y reader item) → gives' reader.session (h.list ++ item ∷ []) start.output after taken
     → WalksToItem gives' start (record { input = y.input; output = after }) taken
 WalksToItem-held gives gives' start y after reader item taken h given = record {

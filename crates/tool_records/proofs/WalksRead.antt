@@ -9,9 +9,9 @@ use Rattle.bats_model.specs.declared.item.Item.{Item}
 use Rattle.bats_model.specs.declared.item.Item.TheVariants as items
 use Rattle.bats_format.specs.Taking.{room_of}
 use Rattle.bats_format.proofs.RecordLemmas.{same_items, same_headers, length-header_record, header_record-begins}
-use Rattle.tool_records.specs.ReadsRecords.{AreRecords, ReadsOn, StopsWithin, ReadsRecords}
-use Rattle.tool_records.specs.Walk.{ReadsItems, ReadsLast}
-use Rattle.tool_records.proofs.RecordsRead.{stops_within, none_empty, record_of-within}
+use Rattle.tool_records.specs.ReadsRecords.{ReadsRecords}
+use Rattle.tool_records.specs.Walk.{AreRecords, ReadsItems, ReadsLast}
+use Rattle.tool_records.proofs.RecordsRead.{reads_as_far, none_empty, record_of-within}
 
 -- ---- what an input tells of which so much was read
 
@@ -51,35 +51,33 @@ same_last (x ∷ list) (y ∷ others) item other e =
 -- ---- how far a command reads
 
 -- the records of items after which it goes on, and then no whole one
-unfoldable pub ReadsRecords-items : (goes_on : SessionData → List Item → Type 0) (session : Option SessionData) (list : List Item) (before after : Option (List ℕ))
-    → ReadsOn goes_on session list → ReadsItems session list before after → ReadsRecords goes_on before after
+unfoldable pub ReadsRecords-items : (goes_on : List Item → Type 0) (session : Option SessionData) (list : List Item) (before after : Option (List ℕ))
+    → goes_on list → ReadsItems session list before after → ReadsRecords goes_on before after
 ReadsRecords-items goes_on session list before after on q = record {
   session = session;
   list = list;
   front = q.front;
   begun = q.begun;
-  records = q.records;
-  reads_on = on;
   read = q.read;
   within = q.within;
-  stops = stops_within goes_on session list q.front q.begun q.none;
+  as_far = reads_as_far goes_on session list q.front q.begun on q.records q.none;
 }
 
 -- nothing, before the first header
-pub ReadsRecords-nothing : (goes_on : SessionData → List Item → Type 0) (left : Option (List ℕ)) → ReadsRecords goes_on left left
-ReadsRecords-nothing goes_on left =
-    ReadsRecords-items goes_on None [] left left tt (record {
-      front = [];
-      begun = [];
-      records = (refl, refl);
-      read = IsRead-nothing left;
-      within = omega arith;
-      none = none_empty None 0;
-    })
+pub ReadsRecords-nothing : (goes_on : List Item → Type 0) (left : Option (List ℕ)) → ReadsRecords goes_on left left
+ReadsRecords-nothing goes_on left = record {
+  session = None;
+  list = [];
+  front = [];
+  begun = [];
+  read = IsRead-nothing left;
+  within = omega arith;
+  as_far = (refl, refl, λ session more is same. absurd (none_empty None 0 session more is same));
+}
 
 -- and one more after which it goes on
-pub ReadsRecords-item : (goes_on : SessionData → List Item → Type 0) (session : SessionData) (list : List Item) (item : Item) (before after : Option (List ℕ))
-    → goes_on session (list ++ item ∷ []) → ReadsLast session list item before after → ReadsRecords goes_on before after
+pub ReadsRecords-item : (goes_on : List Item → Type 0) (session : SessionData) (list : List Item) (item : Item) (before after : Option (List ℕ))
+    → goes_on (list ++ item ∷ []) → ReadsLast session list item before after → ReadsRecords goes_on before after
 ReadsRecords-item goes_on session list item before after on q =
     let front : List ℕ = q.front ++ record_of session item in
     record {
@@ -87,11 +85,9 @@ ReadsRecords-item goes_on session list item before after on q =
       list = list ++ item ∷ [];
       front = front;
       begun = [];
-      records = q.file;
-      reads_on = on;
       read = subst (λ (bytes : List ℕ). IsRead before after bytes) (sym (append-nil front)) q.read;
       within = omega arith;
-      stops = stops_within goes_on (Some session) (list ++ item ∷ []) front [] (none_empty (Some session) (length front));
+      as_far = reads_as_far goes_on (Some session) (list ++ item ∷ []) front [] on q.file (none_empty (Some session) (length front));
     }
 
 -- the first record is a header: it goes no further than one
@@ -106,22 +102,20 @@ within_first session [] (items.Packet at packet) none header is = absurd header
 within_first session (x ∷ list) item none header is = cc
 
 -- and no other header stands there
-first_stops : (goes_on : SessionData → List Item → Type 0) (session : SessionData) (list : List Item) (item : Item) (front : List ℕ)
+first_stops : (goes_on : List Item → Type 0) (session : SessionData) (list : List Item) (item : Item) (front : List ℕ)
     → front ≡ [] → list ≡ [] → IsItemAt session (length front) item → BeginsWithHeader (list ++ item ∷ []) → IsSession session
-    → ¬ goes_on session (list ++ item ∷ []) → StopsWithin goes_on None list front (record_of session item)
+    → ¬ goes_on (list ++ item ∷ []) → (other : SessionData) (more : List ℕ) → IsSession other
+    → record_of session item ≡ header_record other ++ more → (more ≡ []) × ¬ goes_on (items.Header 0 ∷ [])
 unfolding record_of
 first_stops goes_on session [] (items.Header at) front empty none place header is stops = λ other more is_other same.
-    let one = same_headers session other [] more is is_other (append-nil (header_record session) ∙ same) in (
-      sym one.rest,
-      subst (λ (s : SessionData). ¬ goes_on s (items.Header 0 ∷ [])) one.session
-          (subst (λ (n : ℕ). ¬ goes_on session (items.Header n ∷ [])) (place ∙ ap length empty) stops),
-    )
+    let one = same_headers session other [] more is is_other (append-nil (header_record session) ∙ same) in
+    (sym one.rest, subst (λ (n : ℕ). ¬ goes_on (items.Header n ∷ [])) (place ∙ ap length empty) stops)
 first_stops goes_on session [] (items.Packet at packet) front empty none place header is stops = absurd header
 first_stops goes_on session (x ∷ list) item front empty none place header is stops = cc
 
 -- one more, at which it stops
-reads_last : (goes_on : SessionData → List Item → Type 0) (known : Option SessionData) (session : SessionData) (list : List Item) (item : Item) (before after : Option (List ℕ))
-    → (q : ReadsLast session list item before after) → q.known ≡ known → goes_on session list → ¬ goes_on session (list ++ item ∷ [])
+reads_last : (goes_on : List Item → Type 0) (known : Option SessionData) (session : SessionData) (list : List Item) (item : Item) (before after : Option (List ℕ))
+    → (q : ReadsLast session list item before after) → q.known ≡ known → goes_on list → ¬ goes_on (list ++ item ∷ [])
     → ReadsRecords goes_on before after
 reads_last goes_on None session list item before after q e on stops =
     let records : AreRecords None list q.front = subst (λ (s : Option SessionData). AreRecords s list q.front) e q.records in
@@ -130,30 +124,35 @@ reads_last goes_on None session list item before after q e on stops =
       list = list;
       front = q.front;
       begun = record_of session item;
-      records = records;
-      reads_on = tt;
       read = q.read;
       within = within_first session list item records.1 q.file.header q.file.is_session;
-      stops = first_stops goes_on session list item q.front records.0 records.1 q.place q.file.header q.file.is_session stops;
+      as_far = (
+        records.1,
+        records.0,
+        first_stops goes_on session list item q.front records.0 records.1 q.place q.file.header q.file.is_session stops,
+      );
     }
 reads_last goes_on (Some other) session list item before after q e on stops =
     let known : q.known ≡ Some session = q.same (subst IsSome (sym e) refl) in
+    let records : AreRecords (Some session) list q.front = subst (λ (s : Option SessionData). AreRecords s list q.front) known q.records in
     record {
       session = Some session;
       list = list;
       front = q.front;
       begun = record_of session item;
-      records = subst (λ (s : Option SessionData). AreRecords s list q.front) known q.records;
-      reads_on = on;
       read = q.read;
       within = record_of-within session (length list) (length q.front) item (omega (arith, q.file.few, length-append list (item ∷ [])))
           q.file.is_session q.place;
-      stops = λ next more place same.
-          let one = same_items session (length q.front) item next [] more q.place place (append-nil (record_of session item) ∙ same) in
-          (sym one.rest, subst (λ (i : Item). ¬ goes_on session (list ++ i ∷ [])) one.same stops);
+      as_far = (
+        records,
+        on,
+        λ next more place same.
+            let one = same_items session (length q.front) item next [] more q.place place (append-nil (record_of session item) ∙ same) in
+            (sym one.rest, subst (λ (i : Item). ¬ goes_on (list ++ i ∷ [])) one.same stops),
+      );
     }
 
 -- and then exactly the record at which it stops
-pub ReadsRecords-last : (goes_on : SessionData → List Item → Type 0) (session : SessionData) (list : List Item) (item : Item) (before after : Option (List ℕ))
-    → goes_on session list → ¬ goes_on session (list ++ item ∷ []) → ReadsLast session list item before after → ReadsRecords goes_on before after
+pub ReadsRecords-last : (goes_on : List Item → Type 0) (session : SessionData) (list : List Item) (item : Item) (before after : Option (List ℕ))
+    → goes_on list → ¬ goes_on (list ++ item ∷ []) → ReadsLast session list item before after → ReadsRecords goes_on before after
 ReadsRecords-last goes_on session list item before after on stops q = reads_last goes_on q.known session list item before after q refl on stops

@@ -1,10 +1,10 @@
 -- How a command ends that keeps the new packets of a packet file, where it doesn't take the whole input: as long as no more
 -- are kept than may be it reads on.
-use Rattle.std.specs.Prelude.{ℕ, ◌≡◌, ◌≤◌, ◌⊎◌, List, [], ◌∷◌, ◌++◌, codes, Option, Some, None}
+use Rattle.std.specs.Prelude.{ℕ, ◌≡◌, ◌≤◌, ◌⊎◌, List, [], ◌∷◌, ◌++◌, codes}
 use Rattle.bats_model.specs.Session.{SessionData}
 use Rattle.bats_model.specs.Kept.{kept_count}
 use Rattle.bats_model.specs.PacketFile.{packets_of}
-use Rattle.bats_model.specs.Refusal.{HasFront}
+use Rattle.bats_model.specs.Refusal.{HasFront, RefusesHeader, RefusesRecord}
 use Rattle.bats_model.specs.declared.packet.Packet.{Packet}
 use Rattle.bats_model.specs.declared.item.Item.{Item}
 use Rattle.bats_model.specs.declared.item.Item.TheVariants as items
@@ -13,21 +13,17 @@ use Rattle.bats_batch.specs.Held.{max_kept}
 use Rattle.tool_run.specs.declared.status.Status.TheVariants as statuses
 use Rattle.tool_run.specs.Ending.{Ending, refusal, in_part}
 use Rattle.tool_run.specs.Promise.{Promise, IsBegun}
-use Rattle.tool_records.specs.Reading.{IsReading, refusal_ending}
+use Rattle.tool_records.specs.Reading.{refusal_ending}
 use Rattle.tool_records.specs.ReadsRecords.{ReadsRecords}
 
 -- no more of the packets among the items are kept than may be
-abbrev pub AreFew : Option SessionData → List Item → Type 0
-AreFew None list = Unit {0}
-AreFew (Some session) list = kept_count (packets_of list) ≤ max_kept
+abbrev pub AreFew : List Item → Type 0
+AreFew list = kept_count (packets_of list) ≤ max_kept
 
--- the input is refused, and no more of the packets before are kept than may be
+-- the input's first record is refused, or one after items no more of whose packets are kept than may be
 pub record RefusesAfterFew (input : List ℕ) (ending : Ending) : Type 0 where
-  pub session : Option SessionData
-  pub list : List Item
   pub end : ReadEnd
-  pub reading : IsReading input session list (Some end)
-  pub few : AreFew session list
+  pub refused : RefusesHeader input end ⊎ ((session : SessionData) × (list : List Item) × RefusesRecord input session list end × AreFew list)
   pub ending_is : ending ≡ refusal_ending [] end
 
 -- the ending on an input of whose packets more are new than may be kept
@@ -43,24 +39,20 @@ pub record PassesLimit (input : List ℕ) (ending : Ending) : Type 0 where
   pub front : List ℕ
   pub rest : List ℕ
   pub is_front : HasFront input session (list ++ items.Packet at packet ∷ []) front rest
-  pub few : AreFew (Some session) list
-  pub full : ¬ AreFew (Some session) (list ++ items.Packet at packet ∷ [])
+  pub few : AreFew list
+  pub full : ¬ AreFew (list ++ items.Packet at packet ∷ [])
   pub ending_is : ending ≡ kept_limit_ending
 
 -- the ending on an input that isn't taken whole
 abbrev pub StopsKeeping : List ℕ → Ending → Type 0
 StopsKeeping input ending = RefusesAfterFew input ending ⊎ PassesLimit input ending
 
--- the command reads on while no more packets are kept than may be
-abbrev pub takes_few : SessionData → List Item → Type 0
-takes_few session list = AreFew (Some session) list
-
 -- what a command promises that keeps packets and has these endings: it reads a packet file record by record, no further than
 -- the first packet that would be kept when no more may be, and then writes
 abbrev pub keeping_promise : (List ℕ → Ending → Type 0) → Promise
 keeping_promise ends = record {
   ends = ends;
-  reads = ReadsRecords takes_few;
+  reads = ReadsRecords AreFew;
   partly = IsBegun ends;
   partly_read = λ before after part. part ≡ [];
 }

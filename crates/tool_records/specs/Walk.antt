@@ -11,16 +11,15 @@ use Rattle.tool_run.specs.declared.stop.Stop.{Stop}
 use Rattle.tool_run.specs.declared.stop.Stop.TheVariants as stops
 use Rattle.tool_run.specs.Attempt.{IsOfEnding}
 use Rattle.tool_run.specs.Streams.{Ends}
-use Rattle.tool_records.specs.declared.walking.Taken.{Taken}
-use Rattle.tool_records.specs.declared.walking.Taken.TheVariants as takes
+use Rattle.tool_records.specs.declared.walking.Next.{Next}
+use Rattle.tool_records.specs.declared.walking.Next.TheVariants as takes
 use Rattle.tool_records.specs.declared.walking.WalkEnd.{WalkEnd}
 use Rattle.tool_records.specs.declared.walking.WalkEnd.TheVariants as walks
 use Rattle.tool_records.specs.Reading.{IsReading, refusal_status}
-use Rattle.tool_records.specs.ReadsRecords.{AreRecords}
 
 -- what a taker has done of these items of the session, with the output at the start and now, and its answer to the last
 abbrev pub Gives : Type 1
-Gives = SessionData → List Item → OutputState → OutputState → Result Taken Stop → Type 0
+Gives = SessionData → List Item → OutputState → OutputState → Result Next Stop → Type 0
 
 -- each item was taken and the taker goes on; before the first header that holds of every session
 abbrev pub GivenSoFar : Gives → Option SessionData → List Item → OutputState → OutputState → Type 0
@@ -39,6 +38,11 @@ pub record CanTake (gives : Gives) (session : SessionData) (item : Item) (now : 
   pub given : gives session list start now (Ok takes.GoesOn)
   pub place : IsItemAt session (length bytes) item
   pub file : IsPacketFile session (list ++ item ∷ []) (bytes ++ record_of session item)
+
+-- the bytes are the records of these items of the session, or nothing was read yet
+abbrev pub AreRecords : Option SessionData → List Item → List ℕ → Type 0
+AreRecords None list bytes = (bytes ≡ []) × (list ≡ [])
+AreRecords (Some session) list bytes = IsPacketFile session list bytes
 
 -- the records of these items were read, and then no whole record, and no further than one goes
 pub record ReadsItems (session : Option SessionData) (list : List Item) (before after : Option (List ℕ)) : Type 0 where
@@ -84,7 +88,7 @@ pub record WalksToRefusal (gives : Gives) (start now : Ends) (end : ReadEnd) : T
   pub given : GivenSoFar gives session list start.output now.output
 
 -- the taker answered so to the last item that was read
-pub record WalksToItem (gives : Gives) (start now : Ends) (taken : Result Taken Stop) : Type 0 where
+pub record WalksToItem (gives : Gives) (start now : Ends) (taken : Result Next Stop) : Type 0 where
   pub session : SessionData
   pub list : List Item
   pub item : Item

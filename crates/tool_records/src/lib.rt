@@ -3,11 +3,13 @@
 #![tactic(auto)]
 
 mod counters;
+mod keeping;
 mod records;
 mod refusals;
 mod walking;
 
 pub use counters::Counters;
+pub use keeping::{Holder, Keeper, keep_all};
 pub use records::{write_header, write_packet};
-pub use refusals::input_refusal;
-pub use walking::{Taken, Taker, WalkEnd, walk};
+pub use refusals::{input_refusal, unopened};
+pub use walking::{Next, Taker, WalkEnd, walk};

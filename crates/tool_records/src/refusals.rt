@@ -3,10 +3,11 @@ ghost use Rattle.std.specs.Prelude.{◌≡◌, ◌++◌, string_bytes, codes, If
 ghost use Rattle.tool_run.specs.declared.status.Status.TheVariants as statuses;
 ghost use Rattle.tool_run.specs.Attempt.{IsOfEnding};
 ghost use Rattle.tool_records.specs.Reading.{field_word, tag_word, place_line, refusal_line, refusal_status};
+ghost use Rattle.tool_records.specs.steps.Kept.{FinishesUnopened};
 
 use bats_model::{HeaderField, ReadEnd};
 use std::alloc::{AllocError, Global};
-use tool_run::{Finish, Status, refusal};
+use tool_run::{Finish, Status, Stop, refusal};
 
 // The word of a header's field.
 fn field_text(field: HeaderField) -> &'static str
@@ -65,5 +66,16 @@ pub fn input_refusal(alloc: Global, end: ReadEnd) -> Result<Finish, AllocError>
         ReadEnd::Truncated { at } => refusal_at(alloc, at, "truncated"),
         ReadEnd::TooManyRecords => refusal(alloc, Status::Limit, "bats: limit records\n"),
         ReadEnd::Memory | ReadEnd::ReadFault => unreachable!(),
+    }
+}
+
+/// How a run ends whose input has no first header, as `Reader::open` tells it.
+pub fn unopened(alloc: Global, end: ReadEnd) -> Result<Finish, Stop>
+    ensures { FinishesUnopened end result }
+{
+    match end {
+        ReadEnd::Memory => Err(Stop::Memory),
+        ReadEnd::ReadFault => Err(Stop::ReadFault),
+        _ => Ok(input_refusal(alloc, end)?),
     }
 }

@@ -5,8 +5,8 @@ ghost use Rattle.bats_format.specs.Reader.{OpensAt};
 ghost use Rattle.bats_model.specs.Session.{SessionData};
 ghost use Rattle.bats_model.specs.declared.item.Item.{Item};
 ghost use Rattle.tool_run.specs.declared.stop.Stop.{Stop};
-ghost use Rattle.tool_records.specs.declared.walking.Taken.{Taken};
-ghost use Rattle.tool_records.specs.declared.walking.Taken.TheVariants as takes;
+ghost use Rattle.tool_records.specs.declared.walking.Next.{Next};
+ghost use Rattle.tool_records.specs.declared.walking.Next.TheVariants as takes;
 ghost use Rattle.tool_records.specs.Walk.{Begins, CanTake, Walks};
 ghost use Rattle.tool_records.specs.steps.Walked.{ending_of};
 
@@ -18,7 +18,7 @@ use tool_run::Stop;
 
 /// What a taker answers to an item.
 #[derive(Clone, Copy, Debug, PartialEq, Eq)]
-pub enum Taken {
+pub enum Next {
     /// It takes more.
     GoesOn,
     /// It takes no more, and nothing further is to be read.
@@ -40,7 +40,7 @@ pub enum WalkEnd {
 pub trait Taker<K> {
     /// What has been done of these items of the session: the taker and its counters at the start and now, the session
     /// and the items, the output at the start and now, and the answer to the last item, which is `GoesOn` before it.
-    ghost gives: { Self → K → Self → K → SessionData → List Item → OutputState → OutputState → Result Taken Stop → Type 0 };
+    ghost gives: { Self → K → Self → K → SessionData → List Item → OutputState → OutputState → Result Next Stop → Type 0 };
 
     /// Takes the next item of a packet file of this session, and may write. An `Err` tells what failed.
     fn take<O: Sink>(
@@ -50,7 +50,7 @@ pub trait Taker<K> {
         item: Item,
         output: &mut O,
         tools: &mut K,
-    ) -> Result<Taken, Stop>
+    ) -> Result<Next, Stop>
         requires { (first : Self) × (given : K) × CanTake (gives first given self.old tools.old) session.now item (O.state output.old) }
         ensures { (first : Self) (given : K) (so_far : CanTake (gives first given self.old tools.old) session.now item (O.state output.old))
             → gives first given self.new tools.new session.now (so_far.list ++ item ∷ []) so_far.start (O.state output.new) result };
@@ -67,11 +67,11 @@ fn ending_of(end: ReadEnd) -> Result<WalkEnd, Stop>
     }
 }
 
-/// Goes over the records of a packet file whose first header this reader has just read: gives each item to the taker, that
+//// Goes over the records of a packet file whose first header this reader has just read: gives each item to the taker, that
 /// header first, up to the end of the input, the first record that is refused, or the item at which the taker halts, and
 /// reads no further. An `Err` tells what failed: a read, want of memory, or the taker. The output is written by the taker
 /// alone.
-fn walk_opened<S: Source, O: Sink, T: Taker<K>, K>(
+pub(crate) fn walk_opened<S: Source, O: Sink, T: Taker<K>, K>(
     alloc: Global,
     reader: &mut Reader,
     input: &mut S,
@@ -91,8 +91,8 @@ fn walk_opened<S: Source, O: Sink, T: Taker<K>, K>(
     let mut item = Item::Header { at: 0 };
     'records: loop {
         match taker.take(alloc, reader.session(), item, output, tools) {
-            Ok(Taken::GoesOn) => {}
-            Ok(Taken::Halts) => return Ok(WalkEnd::Halted),
+            Ok(Next::GoesOn) => {}
+            Ok(Next::Halts) => return Ok(WalkEnd::Halted),
             Err(stop) => return Err(stop),
         }
         match reader.next(alloc, input) {

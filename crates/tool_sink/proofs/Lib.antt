@@ -1,4 +1,3 @@
-pub mod ReceivedItems
 pub mod ReceivedInputs
 pub mod ToldEndings
 pub mod CheckLines

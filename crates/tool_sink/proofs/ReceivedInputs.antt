@@ -1,119 +1,104 @@
--- An input that was received, from how the walk over its records ended.
-use Rattle.std.proofs.Common.{ℕ, ◌≡◌, List, [], Option, None, Some, Result, Ok, Err, refl, sym, subst}
-use Rattle.std.specs.Prelude.{string_bytes}
+-- An input that was received, packet by packet and whole.
+use Rattle.std.proofs.Common.{ℕ, ◌≡◌, ◌≤◌, ◌<◌, ◌∷◌, ◌++◌, List, [], Option, None, Some, Result, Ok, Err, refl, sym, ◌∙◌, subst}
+use Rattle.std.specs.Prelude.{⊤}
 use Rattle.std.specs.Result.{IsErrAnd}
 use Rattle.std.proofs.lemmas.Result.{err_from_is_err_and}
-use Rattle.bats_io.specs.Streams.{OutputState}
+use Rattle.bats_batch.specs.Basis.{IsTaken}
+use Rattle.bats_batch.specs.Held.{kept_at, row_count, max_kept}
+use Rattle.bats_batch.specs.declared.held.HeldEnd.{HeldEnd}
+use Rattle.bats_batch.specs.declared.held.HeldEnd.TheVariants as held
+use Rattle.bats_decode.specs.Decoder.{Collects, StandsFor}
 use Rattle.bats_model.specs.Session.{SessionData}
-use Rattle.bats_model.specs.declared.item.Item.{Item}
-use Rattle.bats_model.specs.declared.read_end.ReadEnd.{ReadEnd}
+use Rattle.bats_model.specs.PacketFile.{HasShape}
+use Rattle.bats_model.specs.Kept.{kept_count}
+use Rattle.bats_model.specs.declared.packet.Packet.{Packet}
+use Rattle.bats_model.specs.declared.taken.Taken.TheVariants.{Kept}
 use Rattle.tool_run.specs.declared.finish.Finish.{Finish}
 use Rattle.tool_run.specs.declared.stop.Stop.{Stop}
-use Rattle.tool_run.specs.declared.stop.Stop.TheVariants as stops
 use Rattle.tool_run.specs.Attempt.{AttemptsUncounted}
-use Rattle.tool_run.specs.Ending.{Ending}
 use Rattle.tool_run.specs.Streams.{Ends}
-use Rattle.tool_records.specs.declared.walking.Taken.{Taken}
-use Rattle.tool_records.specs.declared.walking.Taken.TheVariants as takes
-use Rattle.tool_records.specs.declared.walking.WalkEnd.{WalkEnd}
-use Rattle.tool_records.specs.declared.walking.WalkEnd.TheVariants as walks
-use Rattle.tool_records.specs.Keeping.{AreFew, StopsKeeping, kept_limit_ending}
-use Rattle.tool_records.specs.Reading.{refusal_status, refusal_ending}
-use Rattle.tool_records.specs.Walk.{Walks, WalksToEnd}
-use Rattle.tool_records.proofs.KeptItems.{AreFew-nothing}
-use Rattle.tool_records.proofs.KeptWalks.{KeepsFew, KeepsFewAs, FinishesBy, Attempts-refused, Attempts-full, Attempts-stopped}
-use Rattle.tool_records.proofs.WalkLemmas.{Walks-map}
+use Rattle.tool_records.specs.Keeping.{StopsKeeping, keeping_promise}
+use Rattle.tool_records.specs.Walk.{WalksToEnd}
+use Rattle.tool_records.specs.steps.Kept.{CanHold, HoldsAs, Keeps, KeepsAll}
+use Rattle.tool_records.proofs.KeptItems.{few_with, is_too_many}
 use Rattle.tool_sink.specs.declared.receiving.Intake.{Intake}
 use Rattle.tool_sink.specs.declared.receiving.Reception.{Reception}
 use Rattle.tool_sink.specs.declared.receiving.Reception.TheVariants as receptions
-use Rattle.tool_sink.specs.steps.Receiving.{Receives, StandsForItems, ReceivesAs}
-use Rattle.tool_sink.specs.steps.Reception.{ReceivesAll, stopping_promise}
+use Rattle.tool_sink.specs.steps.Receiving.{HasReceived}
+use Rattle.tool_sink.specs.steps.Reception.{ReceivesAll, received_in}
 
--- ---- what any receiver has done
+-- ---- a packet more
 
-few_of : (intake : Option Intake) (session : SessionData) (list : List Item) → StandsForItems intake session list → AreFew (Some session) list
-few_of None session list h = AreFew-nothing session list h
-few_of (Some intake) session list h = h.few
+-- an intake that was made for the session
+pub received-nothing : (session : SessionData) (intake : Intake) → intake.session ≡ session → intake.decoder.held.session ≡ intake.session
+    → StandsFor [] intake.decoder → HasReceived session [] intake
+received-nothing session intake same held stands = record { session_is = same; held_session = held ∙ same; stands = stands }
 
-keeps_few_as : (intake : Option Intake) (session : SessionData) (list : List Item) (taken : Result Taken Stop)
-    → ReceivesAs intake session list taken → KeepsFewAs session list taken
-keeps_few_as intake session list (Ok takes.GoesOn) h = few_of intake session list h
-keeps_few_as intake session list (Ok takes.Halts) h = h
-keeps_few_as intake session list (Err stop) h = h
+module _ (session : SessionData) (packets : List Packet) (packet : Packet) (before after : Intake) (can : CanHold (received_in before) session packets packet) where
+  shape_held : HasShape before.decoder.held.session packet
+  shape_held = subst (λ (s : SessionData). HasShape s packet) (sym can.held.held_session) can.shape
 
--- it keeps few packets and writes nothing
-keeps_few : (intake : Option Intake) (first last : ℕ) (session : SessionData) (list : List Item) (start now : OutputState) (taken : Result Taken Stop)
-    → Receives intake first last session list start now taken → KeepsFew session list start now taken
-keeps_few intake first last session list start now taken h =
-    record { as_far = keeps_few_as intake session list taken h.as_far; nothing_written = h.nothing_written }
+  -- it was received
+  held-received : after.session ≡ before.session → after.decoder.held.session ≡ before.decoder.held.session
+      → ((list : List Packet) → StandsFor list before.decoder → StandsFor (list ++ packet ∷ []) after.decoder)
+      → (IsTaken (kept_at before.decoder.held.batches packet.batch) packet Kept → row_count before.decoder.held.batches < max_kept)
+      → HasReceived session (packets ++ packet ∷ []) after × (kept_count (packets ++ packet ∷ []) ≤ max_kept)
+  held-received same same_held stands room = (
+    record {
+      session_is = same ∙ can.held.session_is;
+      held_session = same_held ∙ can.held.held_session;
+      stands = stands packets can.held.stands;
+    },
+    few_with packet before.decoder.held packets shape_held can.held.stands.holds room can.few,
+  )
 
-pub kept_few : (intake : Option Intake) (first last : ℕ) (start now : Ends) (result : Result WalkEnd Stop) → Walks (Receives intake first last) start now result
-    → Walks KeepsFew start now result
-kept_few intake first last start now result w = Walks-map (Receives intake first last) KeepsFew start now result (keeps_few intake first last) w
+  -- it is one too many
+  full-received : row_count before.decoder.held.batches ≡ max_kept
+      → IsTaken (kept_at before.decoder.held.batches packet.batch) packet Kept → ¬ (kept_count (packets ++ packet ∷ []) ≤ max_kept)
+  full-received full is = is_too_many packet before.decoder.held packets shape_held full is can.held.stands.holds
 
--- how the walk ended, once that is known
-pub walked_so : (intake : Option Intake) (first last : ℕ) (start now : Ends) (one other : WalkEnd) → one ≡ other → Walks (Receives intake first last) start now (Ok one)
-    → Walks (Receives intake first last) start now (Ok other)
-walked_so intake first last start now one other e w = subst (λ (end : WalkEnd). Walks (Receives intake first last) start now (Ok end)) e w
+  -- what comes of its offer
+  pub received-as : (result : Result ⊤ HeldEnd) → after.session ≡ before.session → Collects before.decoder after.decoder packet result
+      → HoldsAs (received_in after) session (packets ++ packet ∷ []) result
+  received-as (Ok done) same k = held-received same k.session k.stands k.room
+  received-as (Err held.Full) same k = let full = k.full refl in full-received full.0 full.1
+  received-as (Err held.Memory) same k = tt
 
--- ---- the input isn't taken whole
+-- ---- the whole input
 
-ended : (first last : ℕ) (start now : Ends) (finish : Finish) → AttemptsUncounted stopping_promise start now (Ok finish) → ReceivesAll first last start now (Ok (receptions.Ended finish))
+ended : (first last : ℕ) (start now : Ends) (finish : Finish) → AttemptsUncounted (keeping_promise StopsKeeping) start now (Ok finish)
+    → ReceivesAll first last start now (Ok (receptions.Ended finish))
 ended first last start now finish a = record { as_far = a }
 
-stopped : (first last : ℕ) (start now : Ends) (stop : Stop) → AttemptsUncounted stopping_promise start now (Err stop) → ReceivesAll first last start now (Err stop)
-stopped first last start now stop a = record { as_far = a }
-
 -- a `?` that passes on what stopped the run
-exit : (first last : ℕ) (start now : Ends) (stop : Stop) (result : Result Reception Stop) → IsErrAnd result (λ y. y ≡ stop)
-    → AttemptsUncounted stopping_promise start now (Err stop) → ReceivesAll first last start now result
-exit first last start now stop result is a =
+pub ReceivesAll-cut : (first last : ℕ) (start now : Ends) (stop : Stop) (result : Result Reception Stop) → IsErrAnd result (λ y. y ≡ stop)
+    → AttemptsUncounted (keeping_promise StopsKeeping) start now (Err stop) → ReceivesAll first last start now result
+ReceivesAll-cut first last start now stop result is a =
     let e = err_from_is_err_and result is in
     subst (λ (r : Result Reception Stop). ReceivesAll first last start now r) (sym e.1)
-    (subst (λ (x : Stop). ReceivesAll first last start now (Err x)) (sym e.2) (stopped first last start now stop a))
+    (subst (λ (x : Stop). ReceivesAll first last start now (Err x)) (sym e.2) (record { as_far = a }))
 
-abbrev as_stopping : (input : List ℕ) (ending : Ending) → StopsKeeping input ending → StopsKeeping input ending
-as_stopping input ending stops = stops
+-- how the run ends where it isn't taken whole
+pub ReceivesAll-unopened : (first last : ℕ) (start now : Ends) (finish : Finish)
+    → AttemptsUncounted (keeping_promise StopsKeeping) start now (Ok finish) → ReceivesAll first last start now (Ok (receptions.Ended finish))
+ReceivesAll-unopened first last start now finish a = ended first last start now finish a
 
-module _ (intake : Option Intake) (first last : ℕ) (start now : Ends) where
-  refused_so : (end : ReadEnd) (result : Result Finish Stop) → Walks (Receives intake first last) start now (Ok (walks.Refused end))
-      → FinishesBy (refusal_ending [] end) result → AttemptsUncounted stopping_promise start now result
-  refused_so end result w finishes =
-      Attempts-refused StopsKeeping start now as_stopping end result (kept_few intake first last start now (Ok (walks.Refused end)) w) finishes
+pub ReceivesAll-kept : (intake : Intake) (first last : ℕ) (start now : Ends) (answer : Option Finish) (finish : Finish) → answer ≡ Some finish
+    → KeepsAll (received_in intake) first last start now (Ok answer) → ReceivesAll first last start now (Ok (receptions.Ended finish))
+ReceivesAll-kept intake first last start now answer finish e k =
+    ended first last start now finish (subst (λ (o : Option Finish). KeepsAll (received_in intake) first last start now (Ok o)) e k).as_far
 
-  full_so : (result : Result Finish Stop) → Walks (Receives intake first last) start now (Ok walks.Halted)
-      → FinishesBy kept_limit_ending result → AttemptsUncounted stopping_promise start now result
-  full_so result w finishes = Attempts-full StopsKeeping start now as_stopping result (kept_few intake first last start now (Ok walks.Halted) w) finishes
-
-  pub ReceivesAll-refused : (end : ReadEnd) (finish : Finish) → Walks (Receives intake first last) start now (Ok (walks.Refused end))
-      → finish.status ≡ refusal_status end → string_bytes finish.line ≡ (refusal_ending [] end).line
-      → ReceivesAll first last start now (Ok (receptions.Ended finish))
-  ReceivesAll-refused end finish w status line = ended first last start now finish (refused_so end (Ok finish) w (status, line))
-
-  pub ReceivesAll-refused_unsaid : (end : ReadEnd) (result : Result Reception Stop) → IsErrAnd result (λ y. y ≡ stops.Memory)
-      → Walks (Receives intake first last) start now (Ok (walks.Refused end)) → ReceivesAll first last start now result
-  ReceivesAll-refused_unsaid end result is w = exit first last start now stops.Memory result is (refused_so end (Err stops.Memory) w refl)
-
-  pub ReceivesAll-full : (finish : Finish) → Walks (Receives intake first last) start now (Ok walks.Halted)
-      → finish.status ≡ kept_limit_ending.status → string_bytes finish.line ≡ kept_limit_ending.line
-      → ReceivesAll first last start now (Ok (receptions.Ended finish))
-  ReceivesAll-full finish w status line = ended first last start now finish (full_so (Ok finish) w (status, line))
-
-  pub ReceivesAll-full_unsaid : (result : Result Reception Stop) → IsErrAnd result (λ y. y ≡ stops.Memory)
-      → Walks (Receives intake first last) start now (Ok walks.Halted) → ReceivesAll first last start now result
-  ReceivesAll-full_unsaid result is w = exit first last start now stops.Memory result is (full_so (Err stops.Memory) w refl)
-
-  pub ReceivesAll-stopped : (stop : Stop) (result : Result Reception Stop) → IsErrAnd result (λ y. y ≡ stop)
-      → Walks (Receives intake first last) start now (Err stop) → ReceivesAll first last start now result
-  ReceivesAll-stopped stop result is w =
-      exit first last start now stop result is (Attempts-stopped StopsKeeping start now stop (kept_few intake first last start now (Err stop) w))
+pub ReceivesAll-whole : (intake : Intake) (first last : ℕ) (start now : Ends) (answer : Option Finish) → answer ≡ None
+    → KeepsAll (received_in intake) first last start now (Ok answer) → ReceivesAll first last start now (Ok (receptions.Whole intake))
+ReceivesAll-whole intake first last start now answer e k =
+    record { as_far = (subst (λ (o : Option Finish). KeepsAll (received_in intake) first last start now (Ok o)) e k).as_far }
 
 -- ---- what a reception says
 
 pub ReceivesAll-all : (first last : ℕ) (start now : Ends) (reception : Reception) (intake : Intake) → reception ≡ receptions.Whole intake
-    → ReceivesAll first last start now (Ok reception) → WalksToEnd (Receives (Some intake) first last) start now
+    → ReceivesAll first last start now (Ok reception) → WalksToEnd (Keeps (received_in intake) first last) start now
 ReceivesAll-all first last start now reception intake e h = (subst (λ (r : Reception). ReceivesAll first last start now (Ok r)) e h).as_far
 
 pub ReceivesAll-ended : (first last : ℕ) (start now : Ends) (reception : Reception) (finish : Finish) → reception ≡ receptions.Ended finish
-    → ReceivesAll first last start now (Ok reception) → AttemptsUncounted stopping_promise start now (Ok finish)
+    → ReceivesAll first last start now (Ok reception) → AttemptsUncounted (keeping_promise StopsKeeping) start now (Ok finish)
 ReceivesAll-ended first last start now reception finish e h = (subst (λ (r : Reception). ReceivesAll first last start now (Ok r)) e h).as_far

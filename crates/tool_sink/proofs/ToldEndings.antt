@@ -19,9 +19,8 @@ use Rattle.bats_model.specs.declared.answer.Answer.TheVariants.{File, Inconsiste
 use Rattle.tool_run.specs.declared.finish.Finish.{Finish}
 use Rattle.tool_run.specs.declared.stop.Stop.{Stop}
 use Rattle.tool_run.specs.declared.stop.Stop.TheVariants as stops
-use Rattle.tool_run.specs.Attempt.{Attempts, AttemptsAs, AttemptsUncounted, IsOfEnding}
+use Rattle.tool_run.specs.Attempt.{Attempts, AttemptsUncounted, IsOfEnding}
 use Rattle.tool_run.specs.Ending.{Ending, Reach, HasRead, HasWorked, to_end}
-use Rattle.tool_run.specs.Promise.{IsBegun}
 use Rattle.tool_run.specs.Streams.{Counters, Ends}
 use Rattle.tool_run.specs.Writes.{Writes}
 use Rattle.tool_run.proofs.Writing.{Writes-same}
@@ -30,80 +29,29 @@ use Rattle.tool_records.specs.Keeping.{StopsKeeping, keeping_promise}
 use Rattle.tool_records.specs.Walk.{Walks, WalksToEnd}
 use Rattle.bats_batch.proofs.HeldNumbers.{numbers_of, AreHeld-numbers}
 use Rattle.tool_records.proofs.KeptItems.{packets_of-within}
+use Rattle.tool_records.proofs.Keepers.{few_walked, Attempts-stopping}
 use Rattle.tool_records.proofs.KeptWalks.{EndsAs, Attempts-ended, Attempts-unwritten}
 use Rattle.tool_sink.specs.Answers.{answer_line, answer_status, answer_work}
 use Rattle.tool_sink.specs.Sink.{IsSinkEnding, answer_ending, answer_output, sink_promise}
 use Rattle.tool_sink.specs.Check.{IsCheckEnding, answer_text, check_ending, check_output, check_promise}
 use Rattle.tool_sink.specs.declared.receiving.Intake.{Intake}
 use Rattle.tool_sink.specs.steps.Lines.{held_lines}
-use Rattle.tool_sink.specs.steps.Receiving.{Receives, StandsForAll}
-use Rattle.tool_sink.specs.steps.Reception.{stopping_promise}
+use Rattle.tool_records.specs.steps.Kept.{Keeps}
+use Rattle.tool_sink.specs.steps.Receiving.{HasReceived}
+use Rattle.tool_sink.specs.steps.Reception.{received_in}
 use Rattle.tool_sink.specs.steps.Telling.{CannotTell, IsFileEnding, IsListEnding, Tells, TellsAs}
 use Rattle.tool_sink.proofs.CheckLines.{held_lines-numbers}
-use Rattle.tool_sink.proofs.ReceivedInputs.{kept_few}
 
 -- ---- the input isn't taken whole
 
-begun_wider : (ends : List ℕ → Ending → Type 0) → ((input : List ℕ) (ending : Ending) → StopsKeeping input ending → ends input ending)
-    → (input part : List ℕ) → IsBegun StopsKeeping input part → IsBegun ends input part
-begun_wider ends stopping input part (inl e) = inl e
-begun_wider ends stopping input part (inr f) =
-    inr (record { ending = f.ending; is_ending = stopping input f.ending f.is_ending; front = f.front })
-
-wider_as : (ends : List ℕ → Ending → Type 0) → ((input : List ℕ) (ending : Ending) → StopsKeeping input ending → ends input ending)
-    → (input : List ℕ) (start now : Ends) (c d : Counters) (result : Result Finish Stop) → AttemptsAs stopping_promise input start now c d result
-    → AttemptsAs (keeping_promise ends) input start now c d result
-wider_as ends stopping input start now c d (Ok finish) a = record {
-  ending = a.ending;
-  is_ending = stopping input a.ending a.is_ending;
-  status_is = a.status_is;
-  of_ending = a.of_ending;
-  line_is = a.line_is;
-  read = a.read;
-  worked = a.worked;
-  input_fault = a.input_fault;
-  output = a.output;
-  output_fault = a.output_fault;
-}
-wider_as ends stopping input start now c d (Err stops.ReadFault) a = record {
-  input_fault = a.input_fault;
-  output = record { part = a.output.part; is_part = a.output.is_part; written = a.output.written };
-  output_fault = a.output_fault;
-}
-wider_as ends stopping input start now c d (Err stops.WriteFault) a = record {
-  input_fault = a.input_fault;
-  output = record {
-    part = a.output.part;
-    is_part = begun_wider ends stopping input a.output.part a.output.is_part;
-    written = a.output.written;
-  };
-  output_fault = a.output_fault;
-}
-wider_as ends stopping input start now c d (Err stops.Memory) a = record {
-  input_fault = a.input_fault;
-  output = record {
-    part = a.output.part;
-    is_part = begun_wider ends stopping input a.output.part a.output.is_part;
-    written = a.output.written;
-  };
-  output_fault = a.output_fault;
-}
-
-wider : (ends : List ℕ → Ending → Type 0) → ((input : List ℕ) (ending : Ending) → StopsKeeping input ending → ends input ending)
-    → (start now : Ends) (result : Result Finish Stop) → AttemptsUncounted stopping_promise start now result
-    → AttemptsUncounted (keeping_promise ends) start now result
-wider ends stopping start now result a = λ c d.
-    let b : Attempts stopping_promise start now c d result = a c d in
-    record { input = b.input; told = b.told; read = b.read; as_far = wider_as ends stopping b.input start now c d result b.as_far }
-
 -- so a command ends that has further endings where the input is taken whole
-pub sink-stopped : (both : Bool) (start now : Ends) (result : Result Finish Stop) → AttemptsUncounted stopping_promise start now result
+pub sink-stopped : (both : Bool) (start now : Ends) (result : Result Finish Stop) → AttemptsUncounted (keeping_promise StopsKeeping) start now result
     → AttemptsUncounted (sink_promise both) start now result
-sink-stopped both start now result a = wider (IsSinkEnding both) (λ input ending stops. inr stops) start now result a
+sink-stopped both start now result a = Attempts-stopping (IsSinkEnding both) (λ input ending stops. inr stops) start now result a
 
-pub check-stopped : (start now : Ends) (result : Result Finish Stop) → AttemptsUncounted stopping_promise start now result
+pub check-stopped : (start now : Ends) (result : Result Finish Stop) → AttemptsUncounted (keeping_promise StopsKeeping) start now result
     → AttemptsUncounted check_promise start now result
-check-stopped start now result a = wider IsCheckEnding (λ input ending stops. inr stops) start now result a
+check-stopped start now result a = Attempts-stopping IsCheckEnding (λ input ending stops. inr stops) start now result a
 
 -- ---- an ending was told, or could not be
 
@@ -246,20 +194,20 @@ record IsWholeEnding (ends : List ℕ → Ending → Type 0) (input : List ℕ) 
   of_ending : IsOfEnding ending.status
   reach : ending.reach ≡ to_end
 
-module _ (ends : List ℕ → Ending → Type 0) (intake : Intake) (c d : Counters) (mid : ℕ) (start now : Ends) (w : WalksToEnd (Receives (Some intake) c.payloads mid) start now) where
+module _ (ends : List ℕ → Ending → Type 0) (intake : Intake) (c d : Counters) (mid : ℕ) (start now : Ends) (w : WalksToEnd (Keeps (received_in intake) c.payloads mid) start now) where
   told : (after : OutputState) (ending : Ending) (result : Result Finish Stop) → IsWholeEnding ends w.input ending → HasWorked ending.work c d
       → EndsAs ending now.output after result → Attempts (keeping_promise ends) start (record { input = now.input; output = after }) c d result
   told after ending result whole worked done =
-      let stands : StandsForAll w.session w.list intake = w.given.as_far in
-      Attempts-ended ends (Receives (Some intake) c.payloads mid) start now c d after ending result w stands.few w.given.nothing_written
+      let stands : HasReceived w.session (packets_of w.list) intake = w.given.as_far.held in
+      Attempts-ended ends (Keeps (received_in intake) c.payloads mid) start now c d after ending result w w.given.as_far.few w.given.nothing_written
       whole.is_ending whole.of_ending (subst (λ (r : Reach). HasRead r start.input.left now.input.left) (sym whole.reach) w.end) worked done
 
   unknown : (after : OutputState) → after ≡ now.output
       → Attempts (keeping_promise ends) start (record { input = now.input; output = after }) c d (Err stops.Memory)
   unknown after same =
-      let walked : Walks (Receives (Some intake) c.payloads mid) start now (Ok walks.Whole) = record { as_far = w } in
+      let walked : Walks (Keeps (received_in intake) c.payloads mid) start now (Ok walks.Whole) = record { as_far = w } in
       subst (λ (o : OutputState). Attempts (keeping_promise ends) start (record { input = now.input; output = o }) c d (Err stops.Memory)) (sym same)
-      (Attempts-unwritten ends start now (kept_few (Some intake) c.payloads mid start now (Ok walks.Whole) walked) c d)
+      (Attempts-unwritten ends start now (few_walked (received_in intake) c.payloads mid start now (Ok walks.Whole) walked) c d)
 
   told_as : (is : Ending → Type 0) → ((ending : Ending) → is ending → IsWholeEnding ends w.input ending) → (after : OutputState)
       (result : Result Finish Stop) → TellsAs is c d now.output after result
@@ -286,27 +234,27 @@ is_of_answer (NeedMore at_symbol first second) = tt
 counted : (n m k : ℕ) → k ≡ min n (2 ^ 64 - 1) → n ≤ m → m ≤ most_records → k ≡ n
 counted n m k e h f = omega arith
 
-module _ (intake : Intake) (c d : Counters) (mid : ℕ) (start now : Ends) (w : WalksToEnd (Receives (Some intake) c.payloads mid) start now) where
+module _ (intake : Intake) (c d : Counters) (mid : ℕ) (start now : Ends) (w : WalksToEnd (Keeps (received_in intake) c.payloads mid) start now) where
   all_counted : intake.decoder.packets ≡ length (packets_of w.list)
   all_counted =
-      let stands : StandsForAll w.session w.list intake = w.given.as_far in
+      let stands : HasReceived w.session (packets_of w.list) intake = w.given.as_far.held in
       counted (length (packets_of w.list)) (length w.list) intake.decoder.packets stands.stands.counted (packets_of-within w.list) w.file.few
 
   offers_counted : mid ≤ c.payloads + length (packets_of w.list) * intake.decoder.held.session.m
   offers_counted =
-      let stands : StandsForAll w.session w.list intake = w.given.as_far in
+      let stands : HasReceived w.session (packets_of w.list) intake = w.given.as_far.held in
       subst (λ (s : SessionData). mid ≤ c.payloads + length (packets_of w.list) * s.m) (sym stands.held_session) w.given.worked
 
   file_whole : (both : Bool) (ending : Ending) → IsFileEnding both intake.decoder.held.session (packets_of w.list) ending
       → IsWholeEnding (IsSinkEnding both) w.input ending
   file_whole both ending is =
-      let stands : StandsForAll w.session w.list intake = w.given.as_far in
+      let stands : HasReceived w.session (packets_of w.list) intake = w.given.as_far.held in
       record {
         is_ending = inl (record {
           session = w.session;
           list = w.list;
           file = w.file;
-          few = stands.few;
+          few = w.given.as_far.few;
           answer = is.answer;
           right = subst (λ (s : SessionData). IsRightAnswer s (packets_of w.list) is.answer) stands.held_session is.right;
           inactive = is.inactive;
@@ -320,13 +268,13 @@ module _ (intake : Intake) (c d : Counters) (mid : ℕ) (start now : Ends) (w : 
 
   list_whole : (ending : Ending) → IsListEnding intake.session (packets_of w.list) ending → IsWholeEnding IsCheckEnding w.input ending
   list_whole ending is =
-      let stands : StandsForAll w.session w.list intake = w.given.as_far in
+      let stands : HasReceived w.session (packets_of w.list) intake = w.given.as_far.held in
       record {
         is_ending = inl (record {
           session = w.session;
           list = w.list;
           file = w.file;
-          few = stands.few;
+          few = w.given.as_far.few;
           numbers = is.numbers;
           held = is.held;
           answer = is.answer;
@@ -346,7 +294,7 @@ module _ (intake : Intake) (c d : Counters) (mid : ℕ) (start now : Ends) (w : 
       → TellsAs (IsFileEnding both intake.decoder.held.session packets) first d now.output after result)
       → Attempts (sink_promise both) start (record { input = now.input; output = after }) c d result
   sink-told both after result tells =
-      let stands : StandsForAll w.session w.list intake = w.given.as_far in
+      let stands : HasReceived w.session (packets_of w.list) intake = w.given.as_far.held in
       told_as (IsSinkEnding both) intake c d mid start now w (IsFileEnding both intake.decoder.held.session (packets_of w.list)) (file_whole both)
       after result (tells (packets_of w.list) c stands.stands all_counted offers_counted)
 
@@ -356,6 +304,6 @@ module _ (intake : Intake) (c d : Counters) (mid : ℕ) (start now : Ends) (w : 
       → TellsAs (IsListEnding intake.session packets) first d now.output after result)
       → Attempts check_promise start (record { input = now.input; output = after }) c d result
   check-told after result tells =
-      let stands : StandsForAll w.session w.list intake = w.given.as_far in
+      let stands : HasReceived w.session (packets_of w.list) intake = w.given.as_far.held in
       told_as IsCheckEnding intake c d mid start now w (IsListEnding intake.session (packets_of w.list)) list_whole after result
       (tells (packets_of w.list) c stands.stands all_counted (stands.held_session ∙ sym stands.session_is) offers_counted)

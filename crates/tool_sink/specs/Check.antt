@@ -48,7 +48,7 @@ pub record CheckTells (input : List ℕ) (ending : Ending) : Type 0 where
   pub session : SessionData
   pub list : List Item
   pub file : IsPacketFile session list input
-  pub few : AreFew (Some session) list
+  pub few : AreFew list
   pub numbers : List ℕ
   pub held : AreHeld (packets_of list) numbers
   pub answer : Answer

@@ -36,7 +36,7 @@ pub record SinkAnswers (both : Bool) (input : List ℕ) (ending : Ending) : Type
   pub session : SessionData
   pub list : List Item
   pub file : IsPacketFile session list input
-  pub few : AreFew (Some session) list
+  pub few : AreFew list
   pub answer : Answer
   pub right : IsRightAnswer session (packets_of list) answer
   pub inactive : List ℕ

@@ -15,6 +15,7 @@ use crate::receiving::{Intake, Reception, receive_all};
 use bats_batch::Held;
 use bats_io::{Sink, Source};
 use bats_model::{Answer, Session};
+use bats_stripes::Gate;
 use std::alloc::{AllocError, Global};
 use std::sync::ledger::Ledger;
 use std::thread::Threads;
@@ -93,10 +94,11 @@ fn add_answer(alloc: Global, answer: &Answer, lines: &mut String) -> Result<(), 
 }
 
 // Writes a line for each batch that is held, and one for the answer to the packets that were received.
-fn write_lines<R: Threads + Sync, O: Sink, C: Ledger, L: Ledger>(
+fn write_lines<R: Threads + Sync, G: Gate, O: Sink, C: Ledger, L: Ledger>(
     rt: &R,
     alloc: Global,
     workers: u32,
+    gate: &G,
     intake: Intake,
     output: &mut O,
     counters: &mut Counters<C, L>,
@@ -112,9 +114,13 @@ fn write_lines<R: Threads + Sync, O: Sink, C: Ledger, L: Ledger>(
         result }
 {
     let mut lines = held_lines(alloc, &intake.session, intake.decoder.held())?;
-    let solved = intake
-        .decoder
-        .solve(rt, workers, &mut counters.coef_steps, &mut counters.steps)?;
+    let solved = intake.decoder.solve_with(
+        rt,
+        workers,
+        gate,
+        &mut counters.coef_steps,
+        &mut counters.steps,
+    )?;
     let finish = finish_of(alloc, "check", &solved)?;
     add_answer(alloc, &solved.answer, &mut lines)?;
     write_bytes(output, lines.as_bytes())?;
@@ -122,11 +128,12 @@ fn write_lines<R: Threads + Sync, O: Sink, C: Ledger, L: Ledger>(
 }
 
 /// Does `check`: receives the packets of the input, and writes a line for each batch that is held, numbers rising, and one
-/// that says what the answer is. The number of workers is 1 to 64.
-pub fn check<R: Threads + Sync, S: Source, O: Sink, C: Ledger, L: Ledger>(
+/// that says what the answer is. The number of workers is 1 to 64, and each passes the gate before it works on the payloads.
+pub fn check<R: Threads + Sync, G: Gate, S: Source, O: Sink, C: Ledger, L: Ledger>(
     rt: &R,
     alloc: Global,
     workers: u32,
+    gate: &G,
     input: &mut S,
     output: &mut O,
     counters: &mut Counters<C, L>,
@@ -140,7 +147,7 @@ pub fn check<R: Threads + Sync, S: Source, O: Sink, C: Ledger, L: Ledger>(
         result }
 {
     match receive_all(alloc, input, output, counters)? {
-        Reception::Whole(intake) => write_lines(rt, alloc, workers, intake, output, counters),
+        Reception::Whole(intake) => write_lines(rt, alloc, workers, gate, intake, output, counters),
         Reception::Ended(finish) => Ok(finish),
     }
 }

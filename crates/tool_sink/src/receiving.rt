@@ -1,20 +1,15 @@
 //! Receives the packets of an input.
-ghost use Rattle.std.specs.Prelude.{◌≡◌, ◌≤◌, ◌+◌, List, IsSome, Some, None};
-ghost use Rattle.bats_model.specs.PacketFile.{HasShape};
-ghost use Rattle.bats_model.specs.declared.item.Item.{Item};
-ghost use Rattle.bats_model.specs.declared.item.Item.TheVariants as items;
-ghost use Rattle.tool_records.specs.steps.Came.{HasShapeOf};
-ghost use Rattle.tool_sink.specs.steps.Receiving.{Receives, StandsForItems, TakesItem, item_work};
 ghost use Rattle.tool_sink.specs.steps.Reception.{ReceivesAll};
 
 use bats_batch::HeldEnd;
 use bats_decode::Decoder;
+use bats_format::Reader;
 use bats_io::{Sink, Source};
-use bats_model::{Item, Packet, Session};
+use bats_model::{Packet, Session};
 use std::alloc::Global;
 use std::sync::ledger::Ledger;
-use tool_records::{Counters, Taken, Taker, WalkEnd, input_refusal, walk};
-use tool_run::{Finish, Status, Stop, refusal};
+use tool_records::{Counters, Holder, Keeper, keep_all, unopened};
+use tool_run::{Finish, Stop};
 
 /// What was received of a packet file: its session, and the decoder that has received the packets.
 #[derive(Drop)]
@@ -34,100 +29,18 @@ pub enum Reception {
     Ended(Finish),
 }
 
-// Receives packets: at one that would be kept when no more may be it halts.
-#[derive(Drop)]
-struct Receiver {
-    // Made for the session that the first item brings.
-    intake: Option<Intake>,
-}
+impl Holder for Intake {
+    ghost use Rattle.tool_sink.specs.steps.Receiving.{HasReceived};
 
-// Offers a packet to the decoder.
-fn offer<C: Ledger, L: Ledger>(
-    decoder: &mut Decoder,
-    packet: &Packet,
-    at: u64,
-    counters: &mut Counters<C, L>,
-) -> Result<Taken, Stop>
-    requires { HasShape decoder.old.held.session packet.now }
-    ensures taken { TakesItem (items.Packet at packet.now) decoder.old decoder.new result }
-    ensures steps { counters.new.steps ≤ counters.old.steps + decoder.old.held.session.m }
-{
-    match decoder.offer(packet, &mut counters.coef_steps, &mut counters.steps) {
-        Ok(()) => {
-            let _few = decoder.held().rows();
-            Ok(Taken::GoesOn)
-        }
-        Err(HeldEnd::Full) => Ok(Taken::Halts),
-        Err(HeldEnd::Memory) => Err(Stop::Memory),
-    }
-}
+    ghost holds = { λ first now session packets. HasReceived session packets now };
 
-// Receives the packet of an item, if it is one.
-fn receive<C: Ledger, L: Ledger>(
-    decoder: &mut Decoder,
-    item: &Item,
-    counters: &mut Counters<C, L>,
-) -> Result<Taken, Stop>
-    requires { HasShapeOf decoder.old.held.session item.now }
-    ensures taken { TakesItem item.now decoder.old decoder.new result }
-    ensures steps { counters.new.steps ≤ counters.old.steps + item_work decoder.old.held.session item.now }
-{
-    match item {
-        Item::Header { .. } => Ok(Taken::GoesOn),
-        Item::Packet { at, packet } => offer(decoder, packet, *at, counters),
-    }
-}
-
-impl Receiver {
-    // A receiver of nothing.
-    fn new() -> Receiver
-        ensures { result.intake ≡ None }
-    {
-        Receiver { intake: None }
-    }
-
-    // Takes out what was received, which is made for the session where there is none yet.
-    fn take_intake(&mut self, alloc: Global, session: &Session) -> Intake
-        ensures { (list : List Item) → StandsForItems self.old.intake session.now list
-            → StandsForItems (Some result) session.now list }
-    {
-        match self.intake.take() {
-            Some(intake) => intake,
-            None => Intake {
-                session: *session,
-                decoder: Decoder::new(alloc, *session),
-            },
-        }
-    }
-
-    // What a receiver has received to which some item came.
-    fn into_intake(self) -> Intake
-        requires { IsSome self.intake }
-        ensures { self.intake ≡ Some result }
-    {
-        match self.intake {
-            Some(intake) => intake,
-            None => unreachable!(),
-        }
-    }
-}
-
-impl<C: Ledger, L: Ledger> Taker<Counters<C, L>> for Receiver {
-    ghost gives = { λ first given now counters session list start output result.
-        Receives now.intake given.steps counters.steps session list start output result };
-
-    fn take<O: Sink>(
+    fn hold<C: Ledger, L: Ledger>(
         &mut self,
-        alloc: Global,
-        session: &Session,
-        item: Item,
-        output: &mut O,
+        packet: &Packet,
         counters: &mut Counters<C, L>,
-    ) -> Result<Taken, Stop> {
-        let mut intake = self.take_intake(alloc, session);
-        let taken = receive(&mut intake.decoder, &item, counters);
-        self.intake = Some(intake);
-        taken
+    ) -> Result<(), HeldEnd> {
+        self.decoder
+            .offer(packet, &mut counters.coef_steps, &mut counters.steps)
     }
 }
 
@@ -144,13 +57,19 @@ pub fn receive_all<S: Source, O: Sink, C: Ledger, L: Ledger>(
         (record { input = S.state input.new; output = O.state output.new })
         result }
 {
-    let mut receiver = Receiver::new();
-    match walk(alloc, input, &mut receiver, output, counters)? {
-        WalkEnd::Whole => Ok(Reception::Whole(receiver.into_intake())),
-        WalkEnd::Refused(end) => Ok(Reception::Ended(input_refusal(alloc, end)?)),
-        WalkEnd::Halted => {
-            let finish = refusal(alloc, Status::Limit, "bats: limit kept\n")?;
-            Ok(Reception::Ended(finish))
-        }
+    let mut reader = match Reader::open(input) {
+        Ok(reader) => reader,
+        Err(end) => return Ok(Reception::Ended(unopened(alloc, end)?)),
+    };
+    let session = *reader.session();
+    let mut keeper = Keeper {
+        holder: Intake {
+            session,
+            decoder: Decoder::new(alloc, session),
+        },
+    };
+    match keep_all(alloc, &mut reader, &mut keeper, input, output, counters)? {
+        None => Ok(Reception::Whole(keeper.holder)),
+        Some(finish) => Ok(Reception::Ended(finish)),
     }
 }

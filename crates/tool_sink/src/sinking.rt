@@ -15,6 +15,7 @@ use crate::receiving::{Reception, receive_all};
 use bats_decode::Decoder;
 use bats_io::{Sink, Source};
 use bats_model::Answer;
+use bats_stripes::Gate;
 use std::alloc::Global;
 use std::sync::ledger::Ledger;
 use std::thread::Threads;
@@ -48,10 +49,11 @@ pub fn write_answer<O: Sink>(output: &mut O, both: bool, answer: &Answer) -> Res
 }
 
 // Solves for the file of the packets that were received, and writes the answer.
-fn write_file<R: Threads + Sync, O: Sink, C: Ledger, L: Ledger>(
+fn write_file<R: Threads + Sync, G: Gate, O: Sink, C: Ledger, L: Ledger>(
     rt: &R,
     alloc: Global,
     workers: u32,
+    gate: &G,
     both: bool,
     decoder: Decoder,
     output: &mut O,
@@ -66,18 +68,25 @@ fn write_file<R: Threads + Sync, O: Sink, C: Ledger, L: Ledger>(
         (O.state output.new)
         result }
 {
-    let solved = decoder.solve(rt, workers, &mut counters.coef_steps, &mut counters.steps)?;
+    let solved = decoder.solve_with(
+        rt,
+        workers,
+        gate,
+        &mut counters.coef_steps,
+        &mut counters.steps,
+    )?;
     let finish = finish_of(alloc, "sink", &solved)?;
     write_answer(output, both, &solved.answer)?;
     Ok(finish)
 }
 
 /// Does `sink`: receives the packets of the input, and writes the file that they give, or says why there is none. The
-/// number of workers is 1 to 64.
-pub fn sink<R: Threads + Sync, S: Source, O: Sink, C: Ledger, L: Ledger>(
+/// number of workers is 1 to 64, and each passes the gate before it works on the payloads.
+pub fn sink<R: Threads + Sync, G: Gate, S: Source, O: Sink, C: Ledger, L: Ledger>(
     rt: &R,
     alloc: Global,
     workers: u32,
+    gate: &G,
     both: bool,
     input: &mut S,
     output: &mut O,
@@ -96,6 +105,7 @@ pub fn sink<R: Threads + Sync, S: Source, O: Sink, C: Ledger, L: Ledger>(
             rt,
             alloc,
             workers,
+            gate,
             both,
             intake.decoder,
             output,

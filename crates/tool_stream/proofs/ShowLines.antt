@@ -8,7 +8,7 @@ use Rattle.bats_model.specs.Session.{SessionData}
 use Rattle.bats_model.specs.PacketFile.{IsPacketFile, packets_of}
 use Rattle.bats_model.specs.declared.packet.Packet.{Packet}
 use Rattle.bats_model.specs.declared.item.Item.{Item}
-use Rattle.tool_records.specs.ReadsRecords.{AreRecords, ReadsOn}
+use Rattle.tool_records.specs.Walk.{AreRecords}
 use Rattle.tool_stream.specs.Show.{item_line, item_lines, lines_read, takes_all, AreLinesBegun, show_ending, show_promise}
 use Rattle.tool_run.specs.Ending.{Ending}
 use Rattle.tool_run.specs.Promise.{Keeps}
@@ -31,11 +31,6 @@ pub no_lines : (session : SessionData) (list : List Item) → list ≡ [] → []
 unfolding item_lines
 no_lines session [] e = refl
 no_lines session (item ∷ list) e = cc
-
--- `show` reads on after any items
-pub all_taken : (session : Option SessionData) (list : List Item) → ReadsOn takes_all session list
-all_taken None list = tt
-all_taken (Some session) list = tt
 
 -- all of the lines so far
 pub lines_begun : (known : Option SessionData) (front rest : List ℕ) (list : List Item) → AreRecords known list front

@@ -17,17 +17,17 @@ use Rattle.tool_run.specs.Attempt.{AttemptsAs, AttemptsUncounted, IsOfEnding, Wr
 use Rattle.tool_run.specs.Streams.{Counters, Ends}
 use Rattle.tool_run.specs.Writes.{Writes, AppendsAsFar}
 use Rattle.tool_run.proofs.Writing.{Writes-after, Writes-same, Writes-nothing}
-use Rattle.tool_records.specs.declared.walking.Taken.{Taken}
-use Rattle.tool_records.specs.declared.walking.Taken.TheVariants as takes
+use Rattle.tool_records.specs.declared.walking.Next.{Next}
+use Rattle.tool_records.specs.declared.walking.Next.TheVariants as takes
 use Rattle.tool_records.specs.declared.walking.WalkEnd.{WalkEnd}
 use Rattle.tool_records.specs.declared.walking.WalkEnd.TheVariants as walks
 use Rattle.tool_records.specs.Reading.{refusal_status, refusal_line, refusal_ending}
-use Rattle.tool_records.specs.ReadsRecords.{AreRecords, ReadsRecords}
-use Rattle.tool_records.specs.Walk.{GivenSoFar, Walks, WalksToEnd, WalksToRefusal, WalksToItem, WalksToStop}
+use Rattle.tool_records.specs.ReadsRecords.{ReadsRecords}
+use Rattle.tool_records.specs.Walk.{AreRecords, GivenSoFar, Walks, WalksToEnd, WalksToRefusal, WalksToItem, WalksToStop}
 use Rattle.tool_records.proofs.WalksRead.{told_items, told_last, any_session, ReadsRecords-items, ReadsRecords-item}
 use Rattle.tool_stream.specs.Show.{item_line, item_lines, lines_read, show_line, show_ending, show_promise, takes_all, AreLinesBegun}
 use Rattle.tool_stream.specs.steps.Shown.{HasShown}
-use Rattle.tool_stream.proofs.ShowLines.{count-append, item_lines-more, no_lines, all_taken, lines_begun, lines_front, whole_lines}
+use Rattle.tool_stream.proofs.ShowLines.{count-append, item_lines-more, no_lines, lines_begun, lines_front, whole_lines}
 
 -- ---- one item after another
 
@@ -55,12 +55,12 @@ HasShown-more h p k q session list item start now after s w all packets = record
 }
 
 -- its line was cut short, and a `?` passes on why
-pub HasShown-cut : (h p : ℕ) (session : SessionData) (list : List Item) (item : Item) (start now after : OutputState) (stop : Stop) (result : Result Taken Stop)
+pub HasShown-cut : (h p : ℕ) (session : SessionData) (list : List Item) (item : Item) (start now after : OutputState) (stop : Stop) (result : Result Next Stop)
     → IsErrAnd result (λ y. y ≡ stop) → HasShown h p session list start now (Ok takes.GoesOn) → Writes now after (item_line session item) (Some stop)
     → HasShown h p session (list ++ item ∷ []) start after result
 HasShown-cut h p session list item start now after stop result is s w =
     let e = err_from_is_err_and result is in
-    subst (λ (r : Result Taken Stop). HasShown h p session (list ++ item ∷ []) start after r) (sym e.1)
+    subst (λ (r : Result Next Stop). HasShown h p session (list ++ item ∷ []) start after r) (sym e.1)
     (subst (λ (x : Stop). HasShown h p session (list ++ item ∷ []) start after (Err x)) (sym e.2)
     (record { as_far = lines_with session list item start now after (Some stop) s.as_far.written w }))
 
@@ -124,7 +124,7 @@ not_read : (h p : ℕ) (start now : Ends) (stop : Stop) → WalksToStop (HasShow
 unfolding ReadsRecords-items
 not_read h p start now stops.ReadFault w =
     let told = told_items w.reads in
-    let reads = ReadsRecords-items takes_all w.session w.list start.input.left now.input.left (all_taken w.session w.list) w.reads in
+    let reads = ReadsRecords-items takes_all w.session w.list start.input.left now.input.left tt w.reads in
     let lines = so_far h p w.session w.list w.reads.front start.output now.output w.reads.records w.given in
     λ c d. record {
       input = w.reads.front ++ told.0;
@@ -143,7 +143,7 @@ not_read h p start now stops.ReadFault w =
 not_read h p start now stops.Memory w =
     let told = told_items w.reads in
     memory start now (w.reads.front ++ told.0) (lines_read w.session w.list) told.1
-    (ReadsRecords-items takes_all w.session w.list start.input.left now.input.left (all_taken w.session w.list) w.reads)
+    (ReadsRecords-items takes_all w.session w.list start.input.left now.input.left tt w.reads)
     w.faults (lines_begun w.session w.reads.front told.0 w.list w.reads.records)
     (so_far h p w.session w.list w.reads.front start.output now.output w.reads.records w.given)
 not_read h p start now stops.WriteFault w = absurd w.faults
@@ -167,7 +167,7 @@ Attempts-unsaid h p start now walks.Whole w =
 Attempts-unsaid h p start now (walks.Refused end) w =
     let q : WalksToRefusal (HasShown h p) start now end = w.as_far in
     memory start now q.input (lines_read q.session q.list) q.told
-    (ReadsRecords-items takes_all q.session q.list start.input.left now.input.left (all_taken q.session q.list) q.reads)
+    (ReadsRecords-items takes_all q.session q.list start.input.left now.input.left tt q.reads)
     q.no_fault (whole_lines q.input q.session q.list (Some end) q.reading)
     (so_far h p q.session q.list q.reads.front start.output now.output q.reads.records q.given)
 Attempts-unsaid h p start now walks.Halted w = absurd w.as_far.given.as_far
@@ -207,7 +207,7 @@ Attempts-refused h p start now end finish w status line =
     λ c d. record {
       input = q.input;
       told = q.told;
-      read = ReadsRecords-items takes_all q.session q.list start.input.left now.input.left (all_taken q.session q.list) q.reads;
+      read = ReadsRecords-items takes_all q.session q.list start.input.left now.input.left tt q.reads;
       as_far = record {
         ending = refusal_ending (lines_read q.session q.list) end;
         is_ending = record { session = q.session; list = q.list; end = Some end; reading = q.reading; ending_is = refl };

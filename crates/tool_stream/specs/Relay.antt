@@ -1,5 +1,5 @@
 -- What `relay` sends, how it ends on an input, and what it promises.
-use Rattle.std.specs.Prelude.{ℕ, ◌≡◌, ◌⊎◌, Bool, List, ◌++◌, length, flat_map, codes, None, Some, if◌then◌else◌}
+use Rattle.std.specs.Prelude.{ℕ, ◌≡◌, ◌⊎◌, Bool, List, ◌++◌, length, flat_map, codes, None, if◌then◌else◌}
 use Rattle.std.specs.Fmt.{decimal}
 use Rattle.bats_model.specs.Session.{SessionData}
 use Rattle.bats_model.specs.Kept.{kept_of, kept_count, AreHeld}
@@ -62,7 +62,7 @@ pub record RelaySends (seed : List ℕ) (extra : Bool) (count : ℕ) (input : Li
   pub session : SessionData
   pub list : List Item
   pub file : IsPacketFile session list input
-  pub few : AreFew (Some session) list
+  pub few : AreFew list
   pub numbers : List ℕ
   pub held : AreHeld (packets_of list) numbers
   pub ending_is : ending ≡ relayed_ending session seed (output_count session extra count) (packets_of list) numbers

@@ -67,8 +67,8 @@ pub record IsShowEnding (input : List ℕ) (ending : Ending) : Type 0 where
   pub ending_is : ending ≡ show_ending session list end
 
 -- `show` reads on after any items
-abbrev pub takes_all : SessionData → List Item → Type 0
-takes_all session list = Unit {0}
+abbrev pub takes_all : List Item → Type 0
+takes_all list = Unit {0}
 
 -- the bytes are a front of the lines of the items that the input begins with
 pub record IsFrontOfLines (input : List ℕ) (part : List ℕ) : Type 0 where

@@ -1,21 +1,23 @@
 //! The command `relay`.
 ghost use Rattle.std.specs.Prelude.{ℕ, ◌≡◌, ◌≤◌, List, string_bytes, IfOk};
 ghost use Rattle.bats_model.specs.Session.{SessionData};
+ghost use Rattle.bats_model.specs.PacketFile.{packets_of};
 ghost use Rattle.bats_model.specs.declared.item.Item.{Item};
 ghost use Rattle.bats_relay.specs.Mixer.{sent_of};
 ghost use Rattle.tool_run.specs.Attempt.{AttemptsUncounted};
 ghost use Rattle.tool_run.specs.declared.status.Status.TheVariants as statuses;
 ghost use Rattle.tool_stream.specs.Relay.{relay_line, relay_promise};
 ghost use Rattle.tool_stream.specs.steps.Relaying.{SendsAs};
-ghost use Rattle.tool_stream.specs.steps.Keeping.{StandsForItems};
+ghost use Rattle.tool_stream.specs.steps.Keeping.{HasTakenIn};
 
-use crate::keeping::{Intake, Keeper};
+use crate::keeping::Intake;
 use crate::sending::send_by_rule;
+use bats_format::Reader;
 use bats_io::{Sink, Source};
 use std::alloc::{AllocError, Global};
 use std::sync::ledger::Ledger;
-use tool_records::{Counters, WalkEnd, input_refusal, walk};
-use tool_run::{Finish, Status, Stop, refusal};
+use tool_records::{Counters, Keeper, keep_all, unopened};
+use tool_run::{Finish, Status, Stop};
 
 // The notes line of a relay that is done: the packets that came, those kept, the batches held, and the outputs sent.
 fn relay_text(
@@ -41,7 +43,7 @@ fn send_all<O: Sink>(
     requires count { count ≤ 64 }
     requires session { intake.mixer.held.session ≡ intake.session }
     requires unsent { (batch : ℕ) → sent_of intake.mixer batch ≡ 0 }
-    ensures { (seed : List ℕ) (session : SessionData) (list : List Item) → StandsForItems seed (Some intake) session list
+    ensures { (seed : List ℕ) (session : SessionData) (list : List Item) → HasTakenIn seed session (packets_of list) intake
         → SendsAs seed extra count session list (O.state output.old) (O.state output.new) result }
 {
     let sent = send_by_rule(output, &mut intake, extra, count)?;
@@ -70,10 +72,15 @@ pub fn relay<S: Source, O: Sink, C: Ledger, L: Ledger>(
         (record { input = S.state input.new; output = O.state output.new })
         result }
 {
-    let mut keeper = Keeper::new(seed);
-    match walk(alloc, input, &mut keeper, output, counters)? {
-        WalkEnd::Whole => send_all(alloc, extra, count, keeper.into_intake(), output),
-        WalkEnd::Refused(end) => Ok(input_refusal(alloc, end)?),
-        WalkEnd::Halted => Ok(refusal(alloc, Status::Limit, "bats: limit kept\n")?),
+    let mut reader = match Reader::open(input) {
+        Ok(reader) => reader,
+        Err(end) => return unopened(alloc, end),
+    };
+    let mut keeper = Keeper {
+        holder: Intake::new(alloc, *reader.session(), seed),
+    };
+    match keep_all(alloc, &mut reader, &mut keeper, input, output, counters)? {
+        None => send_all(alloc, extra, count, keeper.holder, output),
+        Some(finish) => Ok(finish),
     }
 }

@@ -11,7 +11,7 @@ ghost use Rattle.tool_stream.specs.steps.Shown.{HasShown, sizes_part, header_res
 use bats_io::{Sink, Source};
 use bats_model::{Item, Packet, Session};
 use std::alloc::{AllocError, Global};
-use tool_records::{Taken, Taker, WalkEnd, input_refusal, walk};
+use tool_records::{Next, Taker, WalkEnd, input_refusal, walk};
 use tool_run::{Finish, Status, Stop, write_bytes};
 
 // The items that were shown: how many headers and how many packets.
@@ -139,10 +139,10 @@ impl Taker<()> for Shown {
         item: Item,
         output: &mut O,
         _tools: &mut (),
-    ) -> Result<Taken, Stop> {
+    ) -> Result<Next, Stop> {
         write_item(alloc, session, output, &item)?;
         self.add(&item);
-        Ok(Taken::GoesOn)
+        Ok(Next::GoesOn)
     }
 }
 

@@ -9,35 +9,35 @@ use Rattle.gf_rows.specs.Plan.{IsPlan, plan_on_column}
 use Rattle.bats_model.specs.Session.{SessionData, IsPadded, symbols_of}
 use Rattle.bats_model.specs.Values.{Satisfies}
 use Rattle.bats_model.specs.declared.packet.Packet.{Packet}
-use Rattle.bats_decode.specs.declared.elimination.Place.{Place}
-use Rattle.bats_decode.specs.declared.elimination.Place.TheVariants.{Row, Free}
+use Rattle.bats_decode.specs.declared.elimination.Origin.{Origin}
+use Rattle.bats_decode.specs.declared.elimination.Origin.TheVariants.{Row, Free}
 use Rattle.bats_decode.specs.declared.elimination.Elimination.{Elimination}
 
--- the place of symbol s
-abbrev pub place_of : Elimination → ℕ → Place
-place_of e s = slice_index_or e.places.items s (Row 0)
+-- the origin of symbol s
+abbrev pub origin_of : Elimination → ℕ → Origin
+origin_of e s = slice_index_or e.origins.items s (Row 0)
 
--- each of the first n of these columns has the place that its number gives
-abbrev pub HavePlaces : ℕ → (ℕ → Place) → List ℕ → List Place → Type 0
-HavePlaces n place columns places = (i : ℕ) → i < n → slice_index_or places (slice_index columns i) (Row 0) ≡ place i
+-- each of the first n of these columns has the origin that its number gives
+abbrev pub HaveOrigins : ℕ → (ℕ → Origin) → List ℕ → List Origin → Type 0
+HaveOrigins n origin columns origins = (i : ℕ) → i < n → slice_index_or origins (slice_index columns i) (Row 0) ≡ origin i
 
--- the places of so many columns' symbols: at each pivot column its row, and at each free column its number among these
-pub record ArePlaces (symbols : ℕ) (pivot_rows pivot_columns free : List ℕ) (places : List Place) : Type 0 where
-  pub count : length places ≡ symbols
-  pub pivots : HavePlaces (length pivot_columns) (λ i. Row (slice_index pivot_rows i)) pivot_columns places
-  pub columns : HavePlaces (length free) Free free places
+-- the origins of so many columns' symbols: at each pivot column its row, and at each free column its number among these
+pub record AreOrigins (symbols : ℕ) (pivot_rows pivot_columns free : List ℕ) (origins : List Origin) : Type 0 where
+  pub count : length origins ≡ symbols
+  pub pivots : HaveOrigins (length pivot_columns) (λ i. Row (slice_index pivot_rows i)) pivot_columns origins
+  pub columns : HaveOrigins (length free) Free free origins
 
--- the place is one of these rows, or one of the free symbols
-abbrev pub IsPlaceWithin : ℕ → ℕ → Place → Type 0
-IsPlaceWithin rows free (Row r) = r < rows
-IsPlaceWithin rows free (Free i) = i < free
+-- the origin is one of these rows, or one of the free symbols
+abbrev pub IsOriginWithin : ℕ → ℕ → Origin → Type 0
+IsOriginWithin rows free (Row r) = r < rows
+IsOriginWithin rows free (Free i) = i < free
 
 -- the sizes and the numbers fit this many rows and the symbols of the session
 pub record IsShaped (session : SessionData) (rows : ℕ) (e : Elimination) : Type 0 where
   pub matrix : IsMatrix e.matrix
   pub row_count : length e.matrix.rows ≡ rows
-  pub places : length e.places.items ≡ symbols_of session
-  pub places_within : (s : ℕ) → s < symbols_of session → IsPlaceWithin rows (length e.free) (place_of e s)
+  pub origins : length e.origins.items ≡ symbols_of session
+  pub origins_within : (s : ℕ) → s < symbols_of session → IsOriginWithin rows (length e.free) (origin_of e s)
   pub free_within : All (λ c. c < e.matrix.cols) e.free
   pub zero_within : All (λ r. r < rows) e.zero_rows
   pub fits : All (FitsRows rows) e.plan
@@ -51,14 +51,14 @@ free_entry e r i = matrix_entry e.matrix r (slice_index e.free i)
 abbrev pub free_sum : Elimination → ℕ → (ℕ → ℕ) → ℕ
 free_sum e r v = gf_sum (length e.free) (λ i. gf_mul (free_entry e r i) (v i))
 
--- the value of a symbol at a place: that of its row after the plan and that sum, added; or that of its free symbol
-abbrev pub value_at : Elimination → List ℕ → (ℕ → ℕ) → Place → ℕ
+-- the value of a symbol at an origin: that of its row after the plan and that sum, added; or that of its free symbol
+abbrev pub value_at : Elimination → List ℕ → (ℕ → ℕ) → Origin → ℕ
 value_at e after v (Row r) = gf_add (slice_index after r) (free_sum e r v)
 value_at e after v (Free i) = v i
 
 -- the values that the free symbols' values make of all symbols
 abbrev pub values_from : Elimination → List ℕ → (ℕ → ℕ) → ℕ → ℕ
-values_from e after v s = value_at e after v (place_of e s)
+values_from e after v s = value_at e after v (origin_of e s)
 
 -- each zero row is 0 after the plan
 abbrev pub AreZeroAfter : Elimination → List ℕ → Type 0
@@ -81,5 +81,5 @@ pub record IsEliminated (session : SessionData) (packets : List Packet) (e : Eli
   pub zero : (column : List ℕ) (x : ℕ → ℕ) → Satisfies session packets column x → AreZeroAfter e (plan_on_column e.plan column)
   pub comes : (column : List ℕ) (x : ℕ → ℕ) → Satisfies session packets column x
       → ComesFrom session e (plan_on_column e.plan column) x
-  pub last : (s r i : ℕ) → IsPadded session → suc s ≡ symbols_of session → place_of e s ≡ Row r → i < length e.free
+  pub last : (s r i : ℕ) → IsPadded session → suc s ≡ symbols_of session → origin_of e s ≡ Row r → i < length e.free
       → free_entry e r i ≡ 0

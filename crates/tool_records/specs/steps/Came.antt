@@ -1,5 +1,5 @@
 -- Items that came to a command which keeps packets.
-use Rattle.std.specs.Prelude.{ℕ, ◌≡◌, List, [], ◌∷◌, ◌++◌, Some}
+use Rattle.std.specs.Prelude.{ℕ, ◌≡◌, List, [], ◌∷◌, ◌++◌}
 use Rattle.bats_model.specs.Session.{SessionData}
 use Rattle.bats_model.specs.PacketFile.{HasShape}
 use Rattle.bats_model.specs.declared.packet.Packet.{Packet}
@@ -17,7 +17,7 @@ pub record CameAfterFew (session : SessionData) (list : List Item) : Type 0 wher
   pub before : List Item
   pub item : Item
   pub list_is : list ≡ before ++ item ∷ []
-  pub few : AreFew (Some session) before
+  pub few : AreFew before
 
 -- the last item is a packet that would be kept when no more may be
 pub record EndsFull (session : SessionData) (list : List Item) : Type 0 where
@@ -25,5 +25,5 @@ pub record EndsFull (session : SessionData) (list : List Item) : Type 0 where
   pub at : ℕ
   pub packet : Packet
   pub list_is : list ≡ before ++ items.Packet at packet ∷ []
-  pub few : AreFew (Some session) before
-  pub full : ¬ AreFew (Some session) list
+  pub few : AreFew before
+  pub full : ¬ AreFew list

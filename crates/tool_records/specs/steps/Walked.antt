@@ -10,11 +10,10 @@ use Rattle.bats_model.specs.declared.read_end.ReadEnd.TheVariants as ends
 use Rattle.tool_run.specs.declared.stop.Stop.{Stop}
 use Rattle.tool_run.specs.declared.stop.Stop.TheVariants as stops
 use Rattle.tool_run.specs.Streams.{Ends}
-use Rattle.tool_records.specs.declared.walking.Taken.TheVariants as takes
+use Rattle.tool_records.specs.declared.walking.Next.TheVariants as takes
 use Rattle.tool_records.specs.declared.walking.WalkEnd.{WalkEnd}
 use Rattle.tool_records.specs.declared.walking.WalkEnd.TheVariants as walks
-use Rattle.tool_records.specs.ReadsRecords.{AreRecords}
-use Rattle.tool_records.specs.Walk.{Gives}
+use Rattle.tool_records.specs.Walk.{AreRecords, Gives}
 
 -- the records of these items were read, and each item was taken
 pub record HasWalked (gives : Gives) (start now : Ends) (reader : ReaderData) : Type 0 where

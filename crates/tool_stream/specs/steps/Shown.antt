@@ -7,8 +7,8 @@ use Rattle.bats_model.specs.PacketFile.{packets_of}
 use Rattle.bats_model.specs.declared.item.Item.{Item}
 use Rattle.tool_run.specs.declared.stop.Stop.{Stop}
 use Rattle.tool_run.specs.Writes.{Writes}
-use Rattle.tool_records.specs.declared.walking.Taken.{Taken}
-use Rattle.tool_records.specs.declared.walking.Taken.TheVariants as takes
+use Rattle.tool_records.specs.declared.walking.Next.{Next}
+use Rattle.tool_records.specs.declared.walking.Next.TheVariants as takes
 use Rattle.tool_stream.specs.Show.{item_lines}
 
 -- the items are counted, and their lines were written
@@ -18,12 +18,12 @@ pub record AreShown (headers packets : ℕ) (session : SessionData) (list : List
   pub written : Writes start now (item_lines session list) None
 
 -- so many headers and packets were shown, or the last line was cut short; it halts at no item
-abbrev pub ShownAs : ℕ → ℕ → SessionData → List Item → OutputState → OutputState → Result Taken Stop → Type 0
+abbrev pub ShownAs : ℕ → ℕ → SessionData → List Item → OutputState → OutputState → Result Next Stop → Type 0
 ShownAs headers packets session list start now (Ok takes.GoesOn) = AreShown headers packets session list start now
 ShownAs headers packets session list start now (Ok takes.Halts) = ⊥
 ShownAs headers packets session list start now (Err stop) = Writes start now (item_lines session list) (Some stop)
 
-pub record HasShown (headers packets : ℕ) (session : SessionData) (list : List Item) (start now : OutputState) (taken : Result Taken Stop) : Type 0 where
+pub record HasShown (headers packets : ℕ) (session : SessionData) (list : List Item) (start now : OutputState) (taken : Result Next Stop) : Type 0 where
   pub as_far : ShownAs headers packets session list start now taken
 
 -- the front of a header's line: its offset, and the sizes of its session

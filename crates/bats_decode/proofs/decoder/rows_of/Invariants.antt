@@ -2,5 +2,5 @@ use Rattle.std.proofs.Common.{◌≡◌, take}
 use Rattle.bats_decode.specs.steps.SymbolRows.{symbol_rows}
 use Rattle.bats_decode.proofs.decoder.rows_of.Given as goal
 
-abbrev pub invariant-places : goal.invariant-places
-invariant-places l = l.rows ≡ symbol_rows (take l.place-index l.places)
+abbrev pub invariant-origins : goal.invariant-origins
+invariant-origins l = l.rows ≡ symbol_rows (take l.origin-index l.origins)

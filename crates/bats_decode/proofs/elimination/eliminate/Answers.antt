@@ -6,10 +6,10 @@ use Rattle.bats_model.specs.declared.packet.Packet.{Packet}
 use Rattle.bats_batch.specs.Held.{row_count, kept_packets}
 use Rattle.bats_peel.specs.Peeled.{IsPeeled, IsPlaced}
 use Rattle.bats_decode.specs.steps.Left.{AreOwnRows}
-use Rattle.bats_decode.specs.declared.elimination.Place.{Place}
+use Rattle.bats_decode.specs.declared.elimination.Origin.{Origin}
 use Rattle.bats_batch.proofs.HeldNumbers.{length-kept_packets}
-use Rattle.bats_decode.proofs.LeftLemmas.{HaveOwnRows-placed, HaveColumns-placed, AreTargets-left, targets-count, cols-inactive, places-read}
-use Rattle.bats_decode.proofs.EliminatedLemmas.{IsEliminated-peeled, plan-within, ArePlaces-read}
+use Rattle.bats_decode.proofs.LeftLemmas.{HaveOwnRows-placed, HaveColumns-placed, AreTargets-left, targets-count, cols-inactive, origins-read}
+use Rattle.bats_decode.proofs.EliminatedLemmas.{IsEliminated-peeled, plan-within, AreOrigins-read}
 use Rattle.bats_decode.proofs.elimination.eliminate.Goals as goal
 
 pub own_rows-requires-clause-count : goal.own_rows-requires-clause-count
@@ -38,19 +38,19 @@ reduce-requires-clause-plan g c =
     let placed = (c.in_ok-peeled.ensures.peeled received.packets received.stands).placed in
     subst (λ (n : ℕ). All (FitsRows n) c.in_ok-peeled.peeled.plan) (sym placed.row_count) placed.fits
 
-pub places_of-requires-clause-count : goal.places_of-requires-clause-count
-places_of-requires-clause-count g c =
+pub origins_of-requires-clause-count : goal.origins_of-requires-clause-count
+origins_of-requires-clause-count g c =
     let received = c.requires.received in
     (c.in_ok-peeled.ensures.peeled received.packets received.stands).placed.places ∙ sym c.symbols-symbols.ensures.value
 
-pub places_of-requires-clause-columns : goal.places_of-requires-clause-columns
-places_of-requires-clause-columns g c =
+pub origins_of-requires-clause-columns : goal.origins_of-requires-clause-columns
+origins_of-requires-clause-columns g c =
     let received = c.requires.received in
     let kept : List Packet = kept_packets c.args.held.now.batches in
     let placed = (c.in_ok-peeled.ensures.peeled received.packets received.stands).placed in
     HaveColumns-placed c.args.session.now (length kept) c.in_ok-peeled.peeled placed c.symbols-symbols.result (length c.deref.result.now)
     c.symbols-symbols.ensures.value
-    (ap (λ (places : List Place). length places) c.deref.ensures.value ∙ (c.in_ok-columns.ensures.count ∙ (c.cols-count.ensures ∙ placed.cols)))
+    (ap (λ (origins : List Origin). length origins) c.deref.ensures.value ∙ (c.in_ok-columns.ensures.count ∙ (c.cols-count.ensures ∙ placed.cols)))
 
 pub returns-clause-eliminated : goal.returns-clause-eliminated
 returns-clause-eliminated g c =
@@ -60,15 +60,15 @@ returns-clause-eliminated g c =
     let peeled = c.in_ok-peeled.peeled in
     let dense = c.in_ok-dense.dense in
     let is : IsPeeled session kept peeled = c.in_ok-peeled.ensures.peeled received.packets received.stands in
-    IsEliminated-peeled session received.packets kept peeled dense c.in_ok-columns.columns.items c.in_ok-places.places c.in_ok-others.others
+    IsEliminated-peeled session received.packets kept peeled dense c.in_ok-columns.columns.items c.in_ok-origins.origins c.in_ok-others.others
     (c.in_ok-peeled.ensures.inactive received.packets received.stands) is
     (subst (λ (n : ℕ). AreOwnRows n peeled.places c.in_ok-others.others) c.symbols-symbols.ensures.value c.in_ok-others.ensures)
     c.in_ok-dense.ensures.reduced c.in_ok-dense.ensures.performed c.in_ok-dense.ensures.solutions c.in_ok-dense.ensures.fits
-    (ArePlaces-read c.cols-count.result (length peeled.columns) c.as_slice.result.now c.as_slice-2.result.now c.as_slice-3.result.now
+    (AreOrigins-read c.cols-count.result (length peeled.columns) c.as_slice.result.now c.as_slice-2.result.now c.as_slice-3.result.now
     dense.pivot_rows dense.pivot_columns dense.free c.in_ok-columns.columns.items
     (c.cols-count.ensures ∙ is.placed.cols) c.as_slice.ensures c.as_slice-2.ensures c.as_slice-3.ensures c.in_ok-columns.ensures)
-    (places-read c.symbols-symbols.result (symbols_of session) c.deref.result.now c.in_ok-columns.columns.items peeled.places
-    c.in_ok-places.places.items c.symbols-symbols.ensures.value c.deref.ensures.value c.in_ok-places.ensures)
+    (origins-read c.symbols-symbols.result (symbols_of session) c.deref.result.now c.in_ok-columns.columns.items peeled.places
+    c.in_ok-origins.origins.items c.symbols-symbols.ensures.value c.deref.ensures.value c.in_ok-origins.ensures)
 
 pub returns-clause-inactive : goal.returns-clause-inactive
 returns-clause-inactive g c packets h =

@@ -1,6 +1,6 @@
 use Rattle.std.proofs.Common.{Ok, Err, inl, ap, ◌∙◌}
 use Rattle.tool_run.specs.Streams.{Ends}
-use Rattle.tool_records.specs.declared.walking.Taken.TheVariants as takes
+use Rattle.tool_records.specs.declared.walking.Next.TheVariants as takes
 use Rattle.tool_records.proofs.ReaderAnswers.{item_of, end_of}
 use Rattle.tool_records.proofs.WalkSteps.{Gives-item, WalksToItem-held, HasWalked-item, HoldsItem-next, WalksToEnd-ended, Walks-refused}
 use Rattle.tool_records.proofs.walking.walk_opened.Goals as goal

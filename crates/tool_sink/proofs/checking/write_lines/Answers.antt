@@ -11,7 +11,7 @@ use Rattle.tool_sink.proofs.checking.write_lines.Goals as goal
 pub returns-in_err-write_bytes : goal.returns-in_err-write_bytes
 returns-in_err-write_bytes g c packets first stands all same offers =
     let session = c.args.intake.session in
-    let last : Counters = record { coefficients = c.solve.new.coef_steps; payloads = c.solve.new.steps } in
+    let last : Counters = record { coefficients = c.solve_with.new.coef_steps; payloads = c.solve_with.new.steps } in
     let s = c.in_ok-solved.solved in
     let e = c.in_ok-solved.ensures in
     let lines = c.as_bytes.ensures.value ∙ c.in_ok-add_answer.ensures
@@ -29,7 +29,7 @@ returns-in_err-write_bytes g c packets first stands all same offers =
 pub returns : goal.returns
 returns g c packets first stands all same offers =
     let session = c.args.intake.session in
-    let last : Counters = record { coefficients = c.solve.new.coef_steps; payloads = c.solve.new.steps } in
+    let last : Counters = record { coefficients = c.solve_with.new.coef_steps; payloads = c.solve_with.new.steps } in
     let s = c.in_ok-solved.solved in
     let e = c.in_ok-solved.ensures in
     let lines = c.as_bytes.ensures.value ∙ c.in_ok-add_answer.ensures

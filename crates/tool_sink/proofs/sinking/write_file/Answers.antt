@@ -6,7 +6,7 @@ use Rattle.tool_sink.proofs.sinking.write_file.Goals as goal
 pub returns-in_err-write_answer : goal.returns-in_err-write_answer
 returns-in_err-write_answer g c packets first stands all offers =
     let session = c.args.decoder.held.session in
-    let last : Counters = record { coefficients = c.solve.new.coef_steps; payloads = c.solve.new.steps } in
+    let last : Counters = record { coefficients = c.solve_with.new.coef_steps; payloads = c.solve_with.new.steps } in
     let s = c.in_ok-solved.solved in
     let e = c.in_ok-solved.ensures in
     TellsAs-cut_short (IsFileEnding c.args.both session packets) first last _ _ c.in_err-write_answer.field-0.0 _
@@ -19,7 +19,7 @@ returns-in_err-write_answer g c packets first stands all offers =
 pub returns : goal.returns
 returns g c packets first stands all offers =
     let session = c.args.decoder.held.session in
-    let last : Counters = record { coefficients = c.solve.new.coef_steps; payloads = c.solve.new.steps } in
+    let last : Counters = record { coefficients = c.solve_with.new.coef_steps; payloads = c.solve_with.new.steps } in
     let s = c.in_ok-solved.solved in
     let e = c.in_ok-solved.ensures in
     Tells-file c.args.both session packets s.answer _ _ c.in_ok-finish.finish s.packets s.kept s.inactive first last
